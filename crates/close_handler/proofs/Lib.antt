@@ -1,0 +1,3 @@
+pub mod Getter
+pub mod Thin
+pub mod ThinBare
