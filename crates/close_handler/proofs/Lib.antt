@@ -1,3 +1,4 @@
 pub mod Getter
+pub mod Laws
 pub mod Thin
 pub mod ThinBare

@@ -14,6 +14,13 @@ abbrev pub numberIn : FinNumber → Option ℕ
 numberIn Nothing = none
 numberIn (Number n) = some n
 
+-- the FIN-ACK that is owed, and the one that is recorded
+abbrev pub owed : CloseBuffer → Option ℕ
+owed c = numberIn (c .«pending_fin_ack_send»)
+
+abbrev pub recorded : CloseBuffer → Option ℕ
+recorded c = numberIn (c .«received_fin_ack_for»)
+
 -- ---- a record with one of its parts changed
 abbrev pub inState : CloseState → CloseBuffer → CloseBuffer
 inState s c = record { state = s; «pending_fin_ack_send» = c .«pending_fin_ack_send»; «received_fin_ack_for» = c .«received_fin_ack_for»; «peer_fin_observed» = c .«peer_fin_observed» }
@@ -68,4 +75,4 @@ abbrev pub afterTake : CloseBuffer → CloseBuffer
 afterTake c = owing Nothing c
 
 abbrev pub taken : CloseBuffer → Option ℕ × CloseBuffer
-taken c = (numberIn (c .«pending_fin_ack_send»), afterTake c)
+taken c = (owed c, afterTake c)

@@ -2,7 +2,7 @@
 // Each event is a covered transition by value, equal to its definition; the Rust's call of that event is a thin function over it.
 // Proved: what each call answers and the record that it leaves are the definition's. No call refuses.
 ghost use mathlib.Core.Path.{_≡_};
-ghost use Rattle.close_handler.specs.Close.{fresh, afterFin, afterFinAck, afterLocalFin, afterClosed, afterTake, numberIn, taken};
+ghost use Rattle.close_handler.specs.Close.{fresh, afterFin, afterFinAck, afterLocalFin, afterClosed, afterTake, numberIn, owed, recorded, taken};
 
 pub enum CloseState {
     Active,
@@ -172,14 +172,14 @@ pub fn state(c: &CloseBuffer) -> CloseState
 
 // net/close_handler.rs, CloseBuffer::pending_fin_ack_send.
 pub fn pending_fin_ack_send(c: &CloseBuffer) -> FinNumber
-    ensures { λ r. ⌜ numberIn r ≡ numberIn (now (c .entry) .«pending_fin_ack_send») ⌝ }
+    ensures { λ r. ⌜ numberIn r ≡ owed (now (c .entry)) ⌝ }
 {
     c.pending_fin_ack_send
 }
 
 // net/close_handler.rs, CloseBuffer::received_fin_ack_for.
 pub fn received_fin_ack_for(c: &CloseBuffer) -> FinNumber
-    ensures { λ r. ⌜ numberIn r ≡ numberIn (now (c .entry) .«received_fin_ack_for») ⌝ }
+    ensures { λ r. ⌜ numberIn r ≡ recorded (now (c .entry)) ⌝ }
 {
     c.received_fin_ack_for
 }

@@ -4,7 +4,7 @@ use denote.Struct.Laws as LL
 use denote.Triple.Spec.{tripleOf}
 use denote.Triple.Table.{entered}
 use contract.Running.{givenOf, tables, tablesOf}
-use Rattle.close_handler.specs.Close.{numberIn}
+use Rattle.close_handler.specs.Close.{numberIn, recorded}
 use Rattle.close_handler.proofs.CloseBuffer as T
 use Rattle.close_handler.proofs.CloseBuffer.Laws as T′
 use Rattle.close_handler.proofs.FinNumber as E
@@ -33,4 +33,4 @@ unfolding code.routine tablesOf
 received-fin-ack-for-spec 𝓤 H 𝓜 𝓖 𝓡 =
     entered 𝓤 H (tripleOf 𝓤 H (𝓖 .A) self.signature (self.spec 𝓤 H (𝓖 .A) (𝓜 .mem) (𝓡 .run)))
     (tables 𝓤 H 𝓜 𝓡 code.env .C) (tables 𝓤 H 𝓜 𝓡 code.env .Λ) #self code.function (code.unfolded 𝓤 H 𝓜 𝓡)
-    (getter-meets the-field (λ h r. numberIn r ≡ numberIn (h .«received_fin_ack_for»)) (λ h. refl) 𝓤 H (𝓖 .A) (givenOf 𝓤 H 𝓜 𝓖) (tablesOf 𝓤 H 𝓜 (tables 𝓤 H 𝓜 𝓡 code.env)))
+    (getter-meets the-field (λ h r. numberIn r ≡ recorded h) (λ h. refl) 𝓤 H (𝓖 .A) (givenOf 𝓤 H 𝓜 𝓖) (tablesOf 𝓤 H 𝓜 (tables 𝓤 H 𝓜 𝓡 code.env)))

@@ -35,7 +35,7 @@ use denote.Triple.Spec.{Meets, tripleOf}
 use denote.Triple.Clauses.{ensured}
 use denote.Triple.Table.{entered, cited}
 use denote.Triple.Walked.{says, Stays, stay-ref, walkOf, goes-ref, Walks, ends-at, walked, walk-meets}
-use Rattle.close_handler.specs.Close.{afterTake, numberIn}
+use Rattle.close_handler.specs.Close.{afterTake, owed}
 use Rattle.close_handler.specs.declared.CloseBuffer.{CloseBuffer}
 use Rattle.close_handler.proofs.CloseBuffer as T
 use Rattle.close_handler.proofs.CloseBuffer.Laws as T′
@@ -76,7 +76,7 @@ module _ {M : Type 1} (𝓤 : URA M) (H : Heap 𝓤) (A : Atoms 𝓤) (W : Given
   exits : Is O.the-row (h .«pending_fin_ack_send») (was ∷ []) → (r : CloseBuffer) → r ≡ afterTake h → ent 𝓤 (sep 𝓤 (A .obs γ (R .coded .code r)) (sep 𝓤 (A .bor κ (Body (mem R) b o γ)) (A .lft κ q))) (Post was)
   exits is r e =
       qed W (‵ (fobs γ (R .coded .code r)) ∷ ‵ (fbor κ (Body (mem R) b o γ)) ∷ ‵ (flft κ q) ∷ []) ∵
-      suffices ! _ (ends-at 𝓤 H A self.ended stayed (self.clauses 𝓤 H A at-mem run) W (((κ, tt), (q, tt), tt, x, at), tt) was (h .«pending_fin_ack_send») (r, tt) (tt, tt)) $ says ! (ap (λ (c : CloseBuffer). (numberIn (h .«pending_fin_ack_send»), c)) e) $ nothing ! $ move ! (3 ∷ 0 ∷ []) $ join ! $
+      suffices ! _ (ends-at 𝓤 H A self.ended stayed (self.clauses 𝓤 H A at-mem run) W (((κ, tt), (q, tt), tt, x, at), tt) was (h .«pending_fin_ack_send») (r, tt) (tt, tt)) $ says ! (ap (λ (c : CloseBuffer). (owed h, c)) e) $ nothing ! $ move ! (3 ∷ 0 ∷ []) $ join ! $
       frame ! $ feqI ! (List Val) (vptr b o ∷ []) (vptr b o ∷ []) refl $ fjoin3 ! $ nothing ! $ move ! (1 ∷ 0 ∷ []) $ fjoin ! $
       owned ! O.the-row (Is O.the-row) (EL.makes O.the-type O′.the-plain 𝓤 H A) (h .«pending_fin_ack_send») _ is $ move ! (1 ∷ 0 ∷ []) $ done !
 
