@@ -26,7 +26,7 @@ pub closed-stays : (c : CloseBuffer) (ks : List Call) → c .state ≡ Closed �
 closed-stays c [] e = e
 closed-stays c (k ∷ ks) e = closed-stays (after c k) ks (closed-step c k e)
 
--- ---- a repeated FIN changes nothing but what is owed, unless our own FIN was sent in between: document 01 takes it in anew then
+-- ---- a repeated FIN changes nothing but what is owed, whatever came in between but our own FIN: in LocalFinSent any FIN is taken in anew
 -- a FIN was received, or the record is closed
 abbrev Past : CloseState → Type 0
 Past Active = ⊥

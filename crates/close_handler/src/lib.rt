@@ -1,5 +1,5 @@
 // The close record of a connection, changed where it is lent: net/close_handler.rs; document 01, "Closing".
-// Each event is a covered transition by value, equal to its definition; the Rust's call of that event is a thin function over it.
+// Each event is a transition by value, `after_..`; the Rust's call of that event is a thin function over it, and changes the record where it is lent.
 // Proved: what each call answers and the record that it leaves are the definition's. No call refuses.
 ghost use mathlib.Core.Path.{_≡_};
 ghost use Rattle.close_handler.specs.Close.{fresh, afterFin, afterFinAck, afterLocalFin, afterClosed, afterTake, numberIn, owed, recorded, taken};

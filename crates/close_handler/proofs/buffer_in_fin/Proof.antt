@@ -1,4 +1,5 @@
--- `close::buffer_in_fin` meets its contract: its MIR is `Thin.antt`'s shape at the callee `after_fin`. Assumes nothing.
+-- `buffer_in_fin` meets its contract: its MIR is `Thin.antt`'s shape at the callee `after_fin`.
+-- Assumes nothing.
 use denote.Triple.Spec.{tripleOf}
 use denote.Triple.Table.{entered, cited}
 use contract.Running.{givenOf, tables, tablesOf}

@@ -1,4 +1,5 @@
--- `close::mark_closed` meets its contract: its MIR is `ThinBare.antt`'s shape at the callee `after_closed`. Assumes nothing.
+-- `mark_closed` meets its contract: its MIR is `ThinBare.antt`'s shape at the callee `after_closed`.
+-- Assumes nothing.
 use denote.Triple.Spec.{tripleOf}
 use denote.Triple.Table.{entered, cited}
 use contract.Running.{givenOf, tables, tablesOf}

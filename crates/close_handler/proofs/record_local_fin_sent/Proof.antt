@@ -1,4 +1,5 @@
--- `close::record_local_fin_sent` meets its contract: its MIR is `Thin.antt`'s shape at the callee `after_local_fin`. Assumes nothing.
+-- `record_local_fin_sent` meets its contract: its MIR is `Thin.antt`'s shape at the callee `after_local_fin`.
+-- Assumes nothing.
 use denote.Triple.Spec.{tripleOf}
 use denote.Triple.Table.{entered, cited}
 use contract.Running.{givenOf, tables, tablesOf}

@@ -1,35 +1,19 @@
--- `state` answers the field: its MIR is `Getter.antt`'s shape at that field. Assumes nothing.
+-- `state` answers the field: its MIR is `Getter.antt`'s shape at that field.
+-- Assumes nothing.
 use mathlib.Core.Path.{_≡_, refl}
-use denote.Struct.Laws as LL
 use denote.Triple.Spec.{tripleOf}
 use denote.Triple.Table.{entered}
 use contract.Running.{givenOf, tables, tablesOf}
-use Rattle.close_handler.proofs.CloseBuffer as T
-use Rattle.close_handler.proofs.CloseBuffer.Laws as T′
-use Rattle.close_handler.proofs.CloseState as E
-use Rattle.close_handler.proofs.CloseState.Laws as E′
-use Rattle.close_handler.proofs.Getter.{Field, getter-meets}
+use Rattle.close_handler.proofs.Getter.{getter-meets}
+use Rattle.close_handler.proofs.Lent as lent
 use Rattle.close_handler.proofs.state.Key.{name as #self}
 use Rattle.close_handler.proofs.state as self
 use Rattle.close_handler.proofs.state.Statement as stated
 use Rattle.close_handler.proofs.state.Code as code
-
-abbrev the-field : Field
-the-field = record {
-  enum = E.the-type;
-  laws = E′.the-laws;
-  few = tt;
-  plain-data = E′.the-plain;
-  get = λ h. h .state;
-  at = 0;
-  offset = 0;
-  place-is = refl;
-  is-part = λ h vs is. LL.owed T.the-type T′.the-laws h vs is .0;
-}
 
 pub state-spec : {M : Type 1} → stated.statement M
 unfolding code.routine tablesOf
 state-spec 𝓤 H 𝓜 𝓖 𝓡 =
     entered 𝓤 H (tripleOf 𝓤 H (𝓖 .A) self.signature (self.spec 𝓤 H (𝓖 .A) (𝓜 .mem) (𝓡 .run)))
     (tables 𝓤 H 𝓜 𝓡 code.env .C) (tables 𝓤 H 𝓜 𝓡 code.env .Λ) #self code.function (code.unfolded 𝓤 H 𝓜 𝓡)
-    (getter-meets the-field (λ h r. r ≡ h .state) (λ h. refl) 𝓤 H (𝓖 .A) (givenOf 𝓤 H 𝓜 𝓖) (tablesOf 𝓤 H 𝓜 (tables 𝓤 H 𝓜 𝓡 code.env)))
+    (getter-meets lent.state (λ h r. r ≡ h .state) (λ h. refl) 𝓤 H (𝓖 .A) (givenOf 𝓤 H 𝓜 𝓖) (tablesOf 𝓤 H 𝓜 (tables 𝓤 H 𝓜 𝓡 code.env)))
