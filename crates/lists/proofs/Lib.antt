@@ -1,1 +1,3 @@
 pub mod Paste
+pub mod Table
+pub mod Bytes

@@ -5,7 +5,7 @@ use mathlib.Core.Path.{_≡_, sym, ap, _∙_}
 use mathlib.Core.List.{List, _++_, append-assoc}
 use native.Mathlib.Omega.{arith}
 use lib.ListN.{length, take, drop, length-drop, length-append, take-append-drop}
-use lib.Seq.{paste, length-take-le, take-length, take-append-add, take-append-le, take-take, drop-drop, drop-append-le, take-paste, drop-paste}
+use lib.Seq.{paste, length-take-le, take-length, take-append-add, take-append-le, take-take, drop-at, drop-drop, drop-append-le, take-paste, drop-paste}
 
 module _ {A : Type 0} where
   -- n elements from a on are n
@@ -15,6 +15,10 @@ module _ {A : Type 0} where
   -- all of a list, pasted
   pub paste-all : (d : List A) (at : ℕ) (x : List A) → paste d at x (length x) ≡ take at d ++ x ++ drop (at + length x) d
   paste-all d at x = rw take-length
+
+  -- what stands from the place of a paste on
+  pub drop-pasted : (d : List A) (at : ℕ) (x : List A) (n : ℕ) → at ≤ length d → drop at (paste d at x n) ≡ take n x ++ drop (at + n) d
+  drop-pasted d at x n h = rw append-assoc (drop-at (take at d) (take n x ++ drop (at + n) d) at (length-take-le at d h))
 
   -- a second run pasted right behind the first is one run pasted
   pub paste-behind : (d x y : List A) (at next : ℕ) → next ≡ at + length x → next ≤ length d

@@ -7,11 +7,16 @@ use native.Mathlib.Omega.{arith}
 use native.Mathlib.Nat.{add-zero, zero-add, add-assoc}
 use lib.ListN.{length, getD, take, drop, length-append, length-drop, List·getD-append}
 use lib.Seq.{getD-drop, getD-at, take-suc}
+use Rattle.lists.proofs.Bytes.{Bytes, bytes-nil, bytes-cons, bytes-append}
 use Rattle.parts.specs.BigEndian.{bytesOf, numberAt}
 
 pub length-bytes : (k n : ℕ) → length (bytesOf k n) ≡ k
 length-bytes zero n = refl
 length-bytes (suc k) n = length-append (bytesOf k (n / 256)) (n % 256 ∷ []) ∙ rw (length-bytes k (n / 256)) (omega arith)
+
+pub bytes-of : (k n : ℕ) → Bytes (bytesOf k n)
+bytes-of zero n = bytes-nil
+bytes-of (suc k) n = bytes-append (bytesOf k (n / 256)) (n % 256 ∷ []) (bytes-of k (n / 256)) (bytes-cons (n % 256) [] (omega arith) bytes-nil)
 
 -- one step of `numberAt` at every width from 0 on
 number-suc : (s : List ℕ) (at k : ℕ) → numberAt s at (suc k) ≡ numberAt s at k * 256 + getD s (at + k) 0
@@ -47,7 +52,7 @@ number-bytes (suc k) n h =
     ∙ whole
 
 -- writing what was read gives the bytes
-pub bytes-number : (k : ℕ) (s : List ℕ) (at : ℕ) → ((i : ℕ) → getD s i 0 < 256) → at + k ≤ length s → bytesOf k (numberAt s at k) ≡ take k (drop at s)
+pub bytes-number : (k : ℕ) (s : List ℕ) (at : ℕ) → Bytes s → at + k ≤ length s → bytesOf k (numberAt s at k) ≡ take k (drop at s)
 bytes-number zero s at fits h = refl
 bytes-number (suc k) s at fits h =
     let low : getD s (at + k) 0 < 256 = fits (at + k) in
