@@ -1,7 +1,7 @@
 -- A header from its parts: the four runs that writing puts one behind the other, and the fields that reading takes.
 -- Assumes nothing.
 use Prim.Native.Nat.{ℕ, _+_, _/_, _≤_}
-use mathlib.Core.Path.{_≡_, refl, ap, ap₂, _∙_}
+use mathlib.Core.Path.{_≡_, ap, ap₂, _∙_}
 use mathlib.Core.List.{List, _++_}
 use mathlib.Core.Bool.{true}
 use native.Mathlib.Omega.{arith}

@@ -15,7 +15,6 @@ use Rattle.lists.proofs.Paste.{drop-pasted}
 use Rattle.lists.proofs.Bytes.{Bytes, bytes-nil, bytes-cons, bytes-append}
 use Rattle.parts.specs.BigEndian.{bytesOf, numberAt}
 use Rattle.parts.proofs.BigEndian.{number-append, number-drop, number-bytes, bytes-number, bytes-of}
-use Rattle.header.specs.declared.PacketType.{PacketType}
 use Rattle.header.specs.declared.BluefinSecurityFields.{BluefinSecurityFields}
 use Rattle.header.specs.declared.BluefinHeader.{BluefinHeader}
 use Rattle.header.specs.Types.{typeNumber, typeOf}
@@ -37,12 +36,15 @@ length-header h = refl
 
 -- The security byte.
 
-module _ (m : ℕ) (small : m ≤ 127) where
-  fields : (e : Bool) → securityOf (securityByte (record { «header_encrypted» = e; «header_protection_mask» = m })) ≡ record { «header_encrypted» = e; «header_protection_mask» = m }
-  fields true = ap₂ (λ (e : Bool) (n : ℕ). record { «header_encrypted» = e; «header_protection_mask» = n }) (le-leb 128 (128 + m) (omega arith)) (omega arith)
-  fields false = ap₂ (λ (e : Bool) (n : ℕ). record { «header_encrypted» = e; «header_protection_mask» = n }) (lt-leb 128 m (omega arith)) (omega arith)
+abbrev held : Bool → ℕ → BluefinSecurityFields
+held e m = record { «header_encrypted» = e; «header_protection_mask» = m }
 
-  below : (e : Bool) → securityByte (record { «header_encrypted» = e; «header_protection_mask» = m }) < 256
+module _ (m : ℕ) (small : m ≤ 127) where
+  fields : (e : Bool) → securityOf (securityByte (held e m)) ≡ held e m
+  fields true = ap₂ held (le-leb 128 (128 + m) (omega arith)) (omega arith)
+  fields false = ap₂ held (lt-leb 128 m (omega arith)) (omega arith)
+
+  below : (e : Bool) → securityByte (held e m) < 256
   below true = omega arith
   below false = omega arith
 

@@ -1,7 +1,7 @@
 -- The header of 20 bytes: its bytes, what is read from bytes, and what each call says and leaves.
 -- Carries document 01, "The header, last leaf".
 use Prim.Native.Nat.{ℕ, _+_, _*_, _/_, _%_}
-use mathlib.Core.Bool.{Bool, false, cond, not, _||_}
+use mathlib.Core.Bool.{Bool, cond, not, _||_}
 use mathlib.Core.List.{List, [], _∷_, _++_}
 use lib.ListN.{length, getD}
 use lib.Seq.{paste}
@@ -26,6 +26,7 @@ use Rattle.header.specs.Types.{typeNumber, typeOf, rowOf}
 abbrev pub securityByte : BluefinSecurityFields → ℕ
 securityByte f = cond (f .«header_encrypted») (128 + f .«header_protection_mask») (f .«header_protection_mask»)
 
+-- the fields in a security byte
 abbrev pub securityOf : ℕ → BluefinSecurityFields
 securityOf b = record { «header_encrypted» = leb 128 b; «header_protection_mask» = b % 128 }
 
@@ -44,10 +45,11 @@ headerBytes h =
     ++ bytesOf 4 (h .«destination_connection_id»)
     ++ bytesOf 8 (h .«packet_number»)
 
--- the type number in a header's first byte, and the header in the 20 bytes of s from `at` on
+-- the type number in the first byte of the header at `at`
 abbrev pub typeAt : List ℕ → ℕ → ℕ
 typeAt s at = getD s at 0 % 16
 
+-- the header in the 20 bytes of s from `at` on, where its type is known
 unfoldable pub headerAt : List ℕ → ℕ → BluefinHeader
 headerAt s at =
     record {
@@ -73,6 +75,7 @@ headerOf source destination type field security =
       «packet_number» = 0;
     }
 
+-- a header with another packet number
 abbrev pub withNumber : BluefinHeader → ℕ → BluefinHeader
 withNumber h n =
     record {
@@ -105,6 +108,7 @@ headerReadSays (header-read.Refused r at) = refusesAt (numberOf r) at
 
 -- What the calls say, and leave.
 
+-- a mask that 7 bits do not hold
 abbrev pub maskTooLarge : BluefinSecurityFields → Bool
 maskTooLarge f = ltb 127 (f .«header_protection_mask»)
 
