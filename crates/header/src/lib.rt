@@ -238,12 +238,10 @@ impl BluefinHeader {
         let type_field = self.type_field;
         let field = self.type_specific_payload;
         let security = self.security_fields;
-        [
-            self.version * 16 + type_number(type_field),
-            (field / 256 % 256) as u8,
-            (field % 256) as u8,
-            security.byte(),
-        ]
+        let first = self.version * 16 + type_number(type_field);
+        let high = (field / 256 % 256) as u8;
+        let low = (field % 256) as u8;
+        [first, high, low, security.byte()]
     }
 
     // Writes the header from `at` on: fields and room are the caller's to check. Each part is a small array, and so one store.

@@ -5,20 +5,20 @@ use Rattle.header.proofs.Types.{number-known}
 use Rattle.header.proofs.BluefinHeader.leading_bytes.Statement.{statement}
 use Rattle.header.proofs.BluefinHeader.leading_bytes.Tie as tie
 
-mul-t5 : tie.Need-mul-t5
-mul-t5 c = search needs
+mul-first : tie.Need-mul-first
+mul-first c = search needs
 
 type-number-requires : tie.Need-type-number-requires
 type-number-requires c κs = search needs
 
-add-t7 : tie.Need-add-t7
-add-t7 c = omega (arith, c .type-number .ensures, number-known (c .before .before .before .args .self .«type_field»))
+add-first : tie.Need-add-first
+add-first c = omega (arith, c .type-number .ensures, number-known (c .before .before .before .args .self .«type_field»))
 
-cast-t10 : tie.Need-cast-t10
-cast-t10 c = search needs
+cast-high : tie.Need-cast-high
+cast-high c = search needs
 
-cast-t12 : tie.Need-cast-t12
-cast-t12 c = search needs
+cast-low : tie.Need-cast-low
+cast-low c = search needs
 
 byte-requires : tie.Need-byte-requires
 byte-requires c κs = search needs
@@ -28,4 +28,5 @@ returns c = simp (c .before .type-number .ensures, c .byte .ensures)
 
 pub leading-bytes-spec : {M : Type 1} → statement M
 leading-bytes-spec =
-    tie.close (tie.spec mul-t5 type-number-requires add-t7 cast-t10 cast-t12 byte-requires returns)
+    tie.close
+    (tie.spec mul-first type-number-requires add-first cast-high cast-low byte-requires returns)
