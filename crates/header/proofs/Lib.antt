@@ -1,3 +1,4 @@
+pub mod Fields
 pub mod Types
 pub mod Parts
 pub mod Trip

@@ -120,11 +120,15 @@ serialisesSecurity f = checks ((maskTooLarge f, 11) ∷ []) refuses (answers (se
 abbrev pub deserialisesSecurity : List ℕ → Said BluefinSecurityFields
 deserialisesSecurity s = checks ((eqb (length s) 0, 1) ∷ []) (λ n. refusesAt n 0) (answers (securityOf (getD s 0 0)))
 
+-- "version above 15 or mask above 127": what no four or seven bits hold
+abbrev pub fieldsTooLarge : BluefinHeader → Bool
+fieldsTooLarge h = ltb 15 (h .version) || maskTooLarge (h .«security_fields»)
+
 -- "Writing version above 15 or mask above 127: 11; then buffer short: 10."
 -- "Writing answers the bytes written; those after them stay."
 abbrev pub serialisesInto : BluefinHeader → List ℕ → Said ℕ × List ℕ
 serialisesInto h buf =
-    checks ((ltb 15 (h .version) || maskTooLarge (h .«security_fields»), 11) ∷ (ltb (length buf) 20, 10) ∷ [])
+    checks ((fieldsTooLarge h, 11) ∷ (ltb (length buf) 20, 10) ∷ [])
     (λ n. (refuses n, buf))
     (answers 20, paste buf 0 (headerBytes h) 20)
 

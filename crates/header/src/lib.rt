@@ -7,7 +7,7 @@ ghost use lib.ListN.{length};
 ghost use lib.Seq.{paste};
 ghost use Rattle.refusal.specs.Said.{Said};
 ghost use Rattle.header.specs.Types.{typeNumber, typeOf, rowOf};
-ghost use Rattle.header.specs.Header.{securityByte, securityOf, leadingBytes, headerBytes, headerOf, withNumber, securityWrittenSays, securityReadSays, headerWrittenSays, headerReadSays, serialisesSecurity, deserialisesSecurity, serialisesInto, deserialisesAt, deserialises};
+ghost use Rattle.header.specs.Header.{securityByte, securityOf, leadingBytes, headerBytes, headerOf, withNumber, securityWrittenSays, securityReadSays, headerWrittenSays, headerReadSays, serialisesSecurity, deserialisesSecurity, fieldsTooLarge, serialisesInto, deserialisesAt, deserialises};
 use refusal::Refusal;
 
 pub enum PacketType {
@@ -259,12 +259,22 @@ impl BluefinHeader {
         parts::put(&number, buf, at + 12);
     }
 
+    // Whether writing is refused with 11: a field that its bits do not hold.
+    pub fn fields_too_large(self) -> bool
+        ensures { λ r. ⌜ r ≡ fieldsTooLarge self ⌝ }
+    {
+        let security = self.security_fields;
+        if self.version > 15 {
+            return true;
+        }
+        security.header_protection_mask > 127
+    }
+
     // core/header.rs, `BluefinHeader::serialise_into`, which asserts the room.
     pub fn serialise_into(self, buf: &mut [u8]) -> HeaderWritten
         ensures { λ r. ⌜ _≡_ {A = Said ℕ × List ℕ} (headerWrittenSays r, now (buf .exit)) (serialisesInto self (now (buf .entry))) ⌝ }
     {
-        let security = self.security_fields;
-        if self.version > 15 || security.header_protection_mask > 127 {
+        if self.fields_too_large() {
             return HeaderWritten::Refused(Refusal::OutOfRange);
         }
         if buf.len() < 20 {

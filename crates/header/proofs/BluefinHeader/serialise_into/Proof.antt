@@ -1,19 +1,25 @@
 -- `header::BluefinHeader::serialise_into` meets its contract: the checks in their order, then the write at 0. Assumes nothing.
-use mathlib.Core.Logic.{⊎-elim}
+use mathlib.Core.Path.{sym, _∙_}
 use borrow.Author.Tests.{lt-ltb, le-ltb}
 use borrow.Author.Needs.{needs}
+use Rattle.header.proofs.Fields.{fields-fit}
 use Rattle.header.proofs.BluefinHeader.serialise_into.Statement.{statement}
 use Rattle.header.proofs.BluefinHeader.serialise_into.Tie as tie
 
+fields-too-large-requires : tie.Need-fields-too-large-requires
+fields-too-large-requires c κs = search needs
+
 returns : tie.Need-returns
-returns c =
-    ⊎-elim (λ w. simp (lt-ltb _ _ (w .taken))) (λ w. simp (le-ltb _ _ (w .0 .left), w .2 .taken)) (c .if1 .came)
+returns c = simp (sym (c .before .fields-too-large .ensures) ∙ c .if1 .taken)
 
 returns-2 : tie.Need-returns-2
-returns-2 c = simp (le-ltb _ _ (c .before .before .before .if1 .left), c .before .if2 .left, lt-ltb _ _ (c .if3 .taken))
+returns-2 c = simp (sym (c .before .before .fields-too-large .ensures) ∙ c .before .if1 .left, lt-ltb _ _ (c .if2 .taken))
 
 serialise-at-unchecked-requires : tie.Need-serialise-at-unchecked-requires
-serialise-at-unchecked-requires c κs = search needs
+serialise-at-unchecked-requires c κs =
+    let tested = c .before .before in
+    let fit = fields-fit (tested .before .before .before .args .self) (sym (tested .before .fields-too-large .ensures) ∙ tested .if1 .left) in
+    (fit .0, fit .1, search needs)
 
 same-length : tie.Need-same-length
 same-length c = search needs
@@ -22,9 +28,10 @@ returns-3 : tie.Need-returns-3
 returns-3 c =
     let wrote = c .before .before in
     let room = wrote .before .before in
-    let mask = room .before in
-    simp (le-ltb _ _ (mask .before .before .if1 .left), mask .if2 .left, le-ltb _ _ (room .if3 .left), wrote .serialise-at-unchecked .ensures)
+    let tested = room .before in
+    simp (sym (tested .before .fields-too-large .ensures) ∙ tested .if1 .left, le-ltb _ _ (room .if2 .left), wrote .serialise-at-unchecked .ensures)
 
 pub serialise-into-spec : {M : Type 1} → statement M
 serialise-into-spec =
-    tie.close (tie.spec returns returns-2 serialise-at-unchecked-requires same-length returns-3)
+    tie.close
+    (tie.spec fields-too-large-requires returns returns-2 serialise-at-unchecked-requires same-length returns-3)
