@@ -1,0 +1,3 @@
+pub mod Alone
+pub mod Step
+pub mod Walk

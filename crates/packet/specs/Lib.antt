@@ -1,0 +1,3 @@
+pub mod Packet
+pub mod Datagram
+pub mod Step

@@ -1,0 +1,191 @@
+// A packet is a header beside its payload, and a datagram is packets end to end.
+// Ports core/packet.rs; document 01, "From a datagram to packets" and "The header, last leaf".
+// Proved: what each call says and leaves in lent memory is the definition's, on every input; written packets are read back (proofs/Trip.antt).
+use header::BluefinHeader;
+use header::HeaderRead;
+use refusal::Refusal;
+ghost use mathlib.Core.Path.{_≡_};
+ghost use mathlib.Core.List.{List};
+ghost use Prim.Native.Nat.{ℕ, _+_, _≤_};
+ghost use lib.ListN.{length, drop};
+ghost use Rattle.refusal.specs.Said.{Said};
+ghost use Rattle.header.specs.Header.{headerReadSays};
+ghost use Rattle.packet.specs.Packet.{serialisesInto, deserialises, packetWrittenSays};
+ghost use Rattle.packet.specs.Datagram.{parsed, parses, parsesInto, parsedSays};
+ghost use Rattle.packet.specs.Step.{Looked};
+
+// RFC 768's longest length, less the 8 bytes of its header.
+const READING_LIMIT: usize = 65527;
+
+pub enum PacketWritten {
+    Bytes(usize),
+    Refused(Refusal),
+}
+
+pub enum Parsed {
+    Packets(usize),
+    Refused(Refusal),
+    RefusedAt(Refusal, usize),
+}
+
+// core/packet.rs, `BluefinPacket::len`.
+pub fn len(payload: &[u8]) -> usize
+    ensures { λ r. ⌜ r ≡ 20 + length (now (payload .entry)) ⌝ }
+{
+    20 + payload.len()
+}
+
+// core/packet.rs, `BluefinPacket::serialise_into`.
+pub fn serialise_into(header: BluefinHeader, payload: &[u8], buf: &mut [u8]) -> PacketWritten
+    ensures { λ r. ⌜ _≡_ {A = Said ℕ × List ℕ} (packetWrittenSays r, now (buf .exit)) (serialisesInto (record { header = header; payload = now (payload .entry) }) (now (buf .entry))) ⌝ }
+{
+    if header.fields_too_large() {
+        return PacketWritten::Refused(Refusal::OutOfRange);
+    }
+    let total = len(payload);
+    if buf.len() < total {
+        return PacketWritten::Refused(Refusal::BufferShort);
+    }
+    header.serialise_at_unchecked(buf, 0);
+    parts::put(payload, buf, 20);
+    PacketWritten::Bytes(total)
+}
+
+// core/packet.rs, `BluefinPacket::deserialise`: the header. The payload is `payload_of` the same bytes.
+pub fn deserialise(bytes: &[u8]) -> HeaderRead
+    ensures { λ r. ⌜ headerReadSays r ≡ deserialises (now (bytes .entry)) ⌝ }
+{
+    if bytes.len() < 20 {
+        return HeaderRead::Refused(Refusal::Short, 0);
+    }
+    BluefinHeader::deserialise_at_unchecked(bytes, 0)
+}
+
+// All bytes after a header, as a part of the slice; none where there is no whole header.
+pub fn payload_of(bytes: &[u8]) -> &[u8]
+    ensures { λ r. ⌜ now r ≡ drop 20 (now (bytes .entry)) ⌝ }
+{
+    let n = bytes.len();
+    if n < 20 {
+        return &bytes[n..];
+    }
+    &bytes[20..]
+}
+
+// What stands at a cursor: a packet with as many payload bytes, a fault, or the end.
+enum Look {
+    Packet(usize),
+    Fault(Refusal),
+    End,
+}
+
+// "refusal 2 if cursor + 20, or cursor + 19 + field, reaches the length or more", where `left` bytes stand from the cursor on.
+fn look_at(datagram: &[u8], at: usize) -> Look
+    requires { ⌜ at ≤ length (now datagram) ⌝ }
+    ensures { λ r. ⌜ Looked (now (datagram .entry)) at r ⌝ }
+{
+    let left = datagram.len() - at;
+    if left == 0 {
+        return Look::End;
+    }
+    if left < 20 {
+        return Look::Fault(Refusal::Tail);
+    }
+    let number = datagram[at] % 16;
+    let row = header::type_row(number as usize);
+    if !row.known {
+        return Look::Fault(Refusal::UnknownType);
+    }
+    if !row.has_payload {
+        return Look::Packet(0);
+    }
+    let field = parts::get2(datagram, at + 1) as usize;
+    if left <= 20 {
+        return Look::Fault(Refusal::PayloadMissing);
+    }
+    if left <= 19 + field {
+        return Look::Fault(Refusal::PayloadMissing);
+    }
+    Look::Packet(field)
+}
+
+// The packets of a datagram, counted, where the index has `room` cells: every check of the walk, and nothing written.
+fn count(datagram: &[u8], room: usize) -> Parsed
+    ensures { λ r. ⌜ parsedSays r ≡ parsed (now (datagram .entry)) room ⌝ }
+{
+    if datagram.len() > READING_LIMIT {
+        return Parsed::Refused(Refusal::OutOfRange);
+    }
+    if datagram.len() < 20 {
+        return Parsed::RefusedAt(Refusal::Short, 0);
+    }
+    let mut at = 0;
+    let mut n = 0;
+    loop {
+        let found = look_at(datagram, at);
+        match found {
+            Look::End => {
+                return Parsed::Packets(n);
+            }
+            Look::Fault(r) => {
+                return Parsed::RefusedAt(r, at);
+            }
+            Look::Packet(payload) => {
+                if n >= room {
+                    return Parsed::Refused(Refusal::BufferShort);
+                }
+                n += 1;
+                at = at + 20 + payload;
+            }
+        }
+    }
+}
+
+// core/packet.rs, `BluefinPacket::from_bytes_into`: one pass, so that what was met before a refusal stands in the index.
+pub fn from_bytes_into(datagram: &[u8], index: &mut [u32]) -> Parsed
+    ensures { λ r. ⌜ _≡_ {A = Said ℕ × List ℕ} (parsedSays r, now (index .exit)) (parsesInto (now (datagram .entry)) (now (index .entry))) ⌝ }
+{
+    if datagram.len() > READING_LIMIT {
+        return Parsed::Refused(Refusal::OutOfRange);
+    }
+    if datagram.len() < 20 {
+        return Parsed::RefusedAt(Refusal::Short, 0);
+    }
+    let room = index.len() / 2;
+    let mut at = 0;
+    let mut n = 0;
+    loop {
+        let found = look_at(datagram, at);
+        match found {
+            Look::End => {
+                return Parsed::Packets(n);
+            }
+            Look::Fault(r) => {
+                return Parsed::RefusedAt(r, at);
+            }
+            Look::Packet(payload) => {
+                if n >= room {
+                    return Parsed::Refused(Refusal::BufferShort);
+                }
+                let cell = 2 * n;
+                index[cell] = at as u32;
+                index[cell + 1] = payload as u32;
+                n += 1;
+                at = at + 20 + payload;
+            }
+        }
+    }
+}
+
+// core/packet.rs, `BluefinPacket::from_bytes`: a pass that only counts, so that a refusal leaves the index as it was.
+pub fn from_bytes(datagram: &[u8], index: &mut [u32]) -> Parsed
+    ensures { λ r. ⌜ _≡_ {A = Said ℕ × List ℕ} (parsedSays r, now (index .exit)) (parses (now (datagram .entry)) (now (index .entry))) ⌝ }
+{
+    let room = index.len() / 2;
+    let counted = count(datagram, room);
+    match counted {
+        Parsed::Packets(_) => from_bytes_into(datagram, index),
+        Parsed::Refused(r) => Parsed::Refused(r),
+        Parsed::RefusedAt(r, at) => Parsed::RefusedAt(r, at),
+    }
+}
