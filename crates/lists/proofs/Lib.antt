@@ -1,3 +1,4 @@
 pub mod Paste
 pub mod Table
 pub mod Bytes
+pub mod Shift

@@ -1,0 +1,155 @@
+-- What the test of refusal 12 says of the numbers held, as facts of them; and what follows of membership and of a number's place.
+-- Assumes nothing.
+use Prim.Native.Nat.{ℕ, zero, suc, _+_, _-_, _≤_, _<_, zero-le, suc-le-suc}
+use mathlib.Core.Path.{_≡_, refl, ap}
+use mathlib.Core.Bool.{Bool, true, false, not, cond, _&&_, _||_, false≢true, or-true}
+use mathlib.Core.List.{List, [], _∷_}
+use native.Mathlib.Nat.{le-of-suc-le-suc, not-suc-le-zero}
+use native.Mathlib.Omega.{arith}
+use lib.ListN.{length, take, getD}
+use lib.Dec.{ltb, leb, eqb}
+use borrow.Author.Tests.{lt-ltb, le-ltb, le-leb, lt-leb, eq-eqb, ne-eqb, ltb-true, ltb-false, leb-true, leb-false, not-true}
+use Rattle.window.specs.declared.SlidingWindow.{SlidingWindow}
+use Rattle.window.specs.Window.{windowSize, maxNumber, expected, below, beyond, exhausted, held, member, rising, holdable, allHoldable, wellFormed, place}
+
+-- the numbers rise, from lo on and below hi
+abbrev pub Rises : ℕ → ℕ → List ℕ → Type 0
+Rises lo hi [] = Unit
+Rises lo hi (x ∷ xs) = (lo ≤ x) × (x < hi) × Rises (suc x) hi xs
+
+pub record WellFormed (w : SlidingWindow) (cells : List ℕ) : Type 0 where
+  pub fits : w .count ≤ length cells
+  pub near : Rises (expected w) (expected w + windowSize) (held w cells)
+  pub small : Rises (expected w) maxNumber (held w cells)
+
+-- both sides of a conjunction that holds
+pub both : (a b : Bool) → (a && b) ≡ true → (a ≡ true) × (b ≡ true)
+both true b h = (refl, h)
+both false b h = absurd (false≢true h)
+
+-- a number that the window may hold
+pub record Holdable (w : SlidingWindow) (n : ℕ) : Type 0 where
+  pub above : expected w ≤ n
+  pub near : n < expected w + windowSize
+  pub small : n < maxNumber
+
+pub is-holdable : (w : SlidingWindow) (n : ℕ) → holdable w n ≡ true → Holdable w n
+is-holdable w n h =
+    let ab = both (not (below w n) && not (beyond w n)) (not (exhausted n)) h in
+    let a = both (not (below w n)) (not (beyond w n)) (ab .0) in
+    let l = ltb-false n (expected w) (not-true (below w n) (a .0)) in
+    let m = leb-false windowSize (n - expected w) (not-true (beyond w n) (a .1)) in
+    record { above = l; near = omega arith; small = leb-false maxNumber n (not-true (exhausted n) (ab .1)) }
+
+pub holdable-is : (w : SlidingWindow) (n : ℕ) → Holdable w n → holdable w n ≡ true
+holdable-is w n h = rw (le-ltb n (expected w) (h .above), lt-leb windowSize (n - expected w) (omega arith), lt-leb maxNumber n (h .small))
+
+-- the test's two halves, as one fact for each bound, and back
+rises : (w : SlidingWindow) (hi : ℕ) (xs : List ℕ) → ((x : ℕ) → Holdable w x → x < hi) → rising xs ≡ true → allHoldable w xs ≡ true → Rises (expected w) hi xs
+unfolding rising allHoldable
+rises w hi [] f r a = tt
+rises w hi (x ∷ []) f r a = let h = is-holdable w x (both (holdable w x) true a .0) in (h .above, f x h, tt)
+rises w hi (x ∷ y ∷ ys) f r a =
+    let up = both (ltb x y) (rising (y ∷ ys)) r in
+    let all = both (holdable w x) (allHoldable w (y ∷ ys)) a in
+    let h = is-holdable w x (all .0) in
+    let rest = rises w hi (y ∷ ys) f (up .1) (all .1) in
+    (h .above, f x h, (ltb-true x y (up .0), rest .1, rest .2))
+
+rising-is : (lo hi : ℕ) (xs : List ℕ) → Rises lo hi xs → rising xs ≡ true
+unfolding rising
+rising-is lo hi [] h = refl
+rising-is lo hi (x ∷ []) h = refl
+rising-is lo hi (x ∷ y ∷ ys) h = rw (lt-ltb x y (h .2 .0)) (rising-is (suc x) hi (y ∷ ys) (h .2))
+
+all-holdable : (w : SlidingWindow) (lo : ℕ) (xs : List ℕ) → expected w ≤ lo → Rises lo (expected w + windowSize) xs → Rises lo maxNumber xs → allHoldable w xs ≡ true
+unfolding allHoldable
+all-holdable w lo [] l a b = refl
+all-holdable w lo (x ∷ xs) l a b =
+    rw (holdable-is w x (record { above = omega arith; near = a .1; small = b .1 })) (all-holdable w (suc x) xs (omega arith) (a .2) (b .2))
+
+pub well-formed : (w : SlidingWindow) (cells : List ℕ) → wellFormed w cells ≡ true → WellFormed w cells
+unfolding wellFormed
+well-formed w cells h =
+    let fr = both (leb (w .count) (length cells) && rising (held w cells)) (allHoldable w (held w cells)) h in
+    let f = both (leb (w .count) (length cells)) (rising (held w cells)) (fr .0) in
+    record {
+      fits = leb-true (w .count) (length cells) (f .0);
+      near = rises w (expected w + windowSize) (held w cells) (λ x k. k .near) (f .1) (fr .1);
+      small = rises w maxNumber (held w cells) (λ x k. k .small) (f .1) (fr .1);
+    }
+
+pub well-formed-is : (w : SlidingWindow) (cells : List ℕ) → WellFormed w cells → wellFormed w cells ≡ true
+unfolding wellFormed
+well-formed-is w cells h =
+    rw (le-leb (w .count) (length cells) (h .fits), rising-is (expected w) maxNumber (held w cells) (h .small))
+    (all-holdable w (expected w) (held w cells) (omega arith) (h .near) (h .small))
+
+module _ (hi : ℕ) where
+  -- the number at an index has at least as many numbers of the range below it
+  pub rises-at : (lo i : ℕ) (xs : List ℕ) → Rises lo hi xs → i < length xs → (lo + i ≤ getD xs i 0) × (getD xs i 0 < hi)
+  rises-at lo i [] r h = absurd (not-suc-le-zero h)
+  rises-at lo zero (x ∷ xs) r h = (omega arith, r .1)
+  rises-at lo (suc i) (x ∷ xs) r h = let k = rises-at (suc x) i xs (r .2) (le-of-suc-le-suc h) in (omega arith, k .1)
+
+  -- a number below all of them is none of them
+  pub not-below : (lo n : ℕ) (xs : List ℕ) → Rises lo hi xs → n < lo → member n xs ≡ false
+  unfolding member
+  not-below lo n [] r h = refl
+  not-below lo n (x ∷ xs) r h = rw (ne-eqb x n (λ q. omega arith), not-below (suc x) n xs (r .2) (omega arith))
+
+  -- nor is one from b on that stands before the number at b's place
+  pub not-before : (lo b n : ℕ) (xs : List ℕ) → Rises lo hi xs → b ≤ n → (place b xs < length xs → n < getD xs (place b xs) 0) → member n xs ≡ false
+  unfolding member place
+  not-before lo b n [] r h f = refl
+  not-before lo b n (x ∷ xs) r h f = by (not-before (suc x) b n xs (r .2) h) (ltb x b) refl f
+    where
+      by : ((place b xs < length xs → n < getD xs (place b xs) 0) → member n xs ≡ false) → (t : Bool) → ltb x b ≡ t
+          → (cond t (suc (place b xs)) zero < length (x ∷ xs) → n < getD (x ∷ xs) (cond t (suc (place b xs)) zero) 0)
+          → (eqb x n || member n xs) ≡ false
+      by ih true t f = let l = ltb-true x b t in rw (ne-eqb x n (λ q. omega arith)) (ih (λ p. f (suc-le-suc p)))
+      by ih false t f = let l : n < x = f (suc-le-suc zero-le) in rw (ne-eqb x n (λ q. omega arith), not-below (suc x) n xs (r .2) (omega arith))
+
+  -- where the last number is below n, n's place is behind all of them
+  pub place-behind : (lo n i : ℕ) (xs : List ℕ) → Rises lo hi xs → length xs ≡ suc i → getD xs i 0 < n → place n xs ≡ suc i
+  unfolding place
+  place-behind lo n i [] r q h = absurd (let z : _≡_ {A = ℕ} 0 1 = omega arith in omega arith)
+  place-behind lo n zero (x ∷ []) r q h = rw (lt-ltb x n h)
+  place-behind lo n zero (x ∷ y ∷ ys) r q h = absurd (omega arith)
+  place-behind lo n (suc i) (x ∷ xs) r q h =
+      let l : length xs ≡ suc i = omega arith in
+      let k = rises-at (suc x) i xs (r .2) (omega arith) in
+      rw (lt-ltb x n (omega arith)) (ap suc (place-behind (suc x) n i xs (r .2) l h))
+
+  -- the first of rising numbers rise
+  pub rises-take : (lo i : ℕ) (xs : List ℕ) → Rises lo hi xs → Rises lo hi (take i xs)
+  rises-take lo zero xs r = tt
+  rises-take lo (suc i) [] r = tt
+  rises-take lo (suc i) (x ∷ xs) r = (r .0, r .1, rises-take (suc x) i xs (r .2))
+
+-- a number that stands at an index is one of them
+pub is-member : (n i : ℕ) (xs : List ℕ) → i < length xs → getD xs i 0 ≡ n → member n xs ≡ true
+unfolding member
+is-member n i [] h q = absurd (not-suc-le-zero h)
+is-member n zero (x ∷ xs) h q = rw (eq-eqb x n q)
+is-member n (suc i) (x ∷ xs) h q = rw (is-member n i xs (le-of-suc-le-suc h) q) (or-true (eqb x n))
+
+-- the number at n's place is not below n
+pub place-from : (n : ℕ) (xs : List ℕ) → place n xs < length xs → n ≤ getD xs (place n xs) 0
+unfolding place
+place-from n [] h = absurd (not-suc-le-zero h)
+place-from n (x ∷ xs) h = by (place-from n xs) (ltb x n) refl h
+  where
+    by : (place n xs < length xs → n ≤ getD xs (place n xs) 0) → (t : Bool) → ltb x n ≡ t
+        → cond t (suc (place n xs)) zero < length (x ∷ xs) → n ≤ getD (x ∷ xs) (cond t (suc (place n xs)) zero) 0
+    by ih true t h = ih (le-of-suc-le-suc h)
+    by ih false t h = ltb-false x n t
+
+pub place-within : (n : ℕ) (xs : List ℕ) → place n xs ≤ length xs
+unfolding place
+place-within n [] = omega arith
+place-within n (x ∷ xs) = by (place-within n xs) (ltb x n)
+  where
+    by : place n xs ≤ length xs → (t : Bool) → cond t (suc (place n xs)) zero ≤ length (x ∷ xs)
+    by ih true = suc-le-suc ih
+    by ih false = zero-le

@@ -1,0 +1,73 @@
+use Prim.Native.Nat.{ℕ, _+_, _-_, _≤_}
+use mathlib.Core.Path.{_≡_, refl, ap, _∙_}
+use mathlib.Core.List.{List}
+use native.Mathlib.Omega.{arith}
+use lib.ListN.{length, set, length-set}
+use lib.Seq.{paste, paste-zero}
+use borrow.Author.Needs.{needs}
+use Rattle.window.specs.Window.{numbers}
+use Rattle.window.proofs.Loops.{fill-at}
+use Rattle.window.proofs.fill.Statement.{statement}
+use Rattle.window.proofs.fill.Tie as tie
+
+abbrev Inv-loop : tie.InvT-loop
+Inv-loop cells₀ at base k i₀ cells i = (i ≤ k) × (length cells ≡ length cells₀) × (cells ≡ paste cells₀ at (numbers base k) i)
+
+abbrev μ-loop : tie.MeasureT-loop
+μ-loop cells₀ at base k i₀ cells i = k - i
+
+loop-holds : tie.Need-loop-holds Inv-loop μ-loop
+loop-holds c = let a = c .args in (omega arith, refl, paste-zero (a .cells .now) (a .at) (numbers (a .base) (a .k)))
+
+add-cells : tie.Need-add-cells Inv-loop μ-loop
+add-cells c = search needs
+
+add-cells-2 : tie.Need-add-cells-2 Inv-loop μ-loop
+add-cells-2 c = search needs
+
+mul-cells : tie.Need-mul-cells Inv-loop μ-loop
+mul-cells c = search needs
+
+slice-write-cells : tie.Need-slice-write-cells Inv-loop μ-loop
+slice-write-cells c = search needs
+
+add-i : tie.Need-add-i Inv-loop μ-loop
+add-i c = search needs
+
+loop-less : tie.Need-loop-less Inv-loop μ-loop
+loop-less c = search needs
+
+loop-again : tie.Need-loop-again Inv-loop μ-loop
+loop-again c =
+    let l = c .before in
+    let a = l .before .args in
+    let i = l .loop .i in
+    let turn = fill-at (a .cells .now) (a .at) (a .base) (a .k) i (omega arith) (omega arith) in
+    (omega arith, simp length-set (omega arith), ap (λ (x : List ℕ). set x (a .at + i) (a .base + i)) (l .loop .inv .2) ∙ turn)
+
+same-length : tie.Need-same-length Inv-loop μ-loop
+same-length c = search needs
+
+returns : tie.Need-returns Inv-loop μ-loop
+returns c =
+    let l = c .before in
+    let a = l .before .args in
+    let q : l .loop .i ≡ a .k = omega arith in
+    rw q at (l .loop .inv .2)
+
+pub fill-spec : {M : Type 1} → statement M
+fill-spec =
+    tie.close
+    (tie.spec
+    Inv-loop
+    μ-loop
+    loop-holds
+    add-cells
+    add-cells-2
+    mul-cells
+    slice-write-cells
+    add-i
+    loop-less
+    loop-again
+    same-length
+    returns)

@@ -1,0 +1,86 @@
+use Prim.Native.Nat.{suc, _-_, _≤_, _<_}
+use mathlib.Core.Path.{_≡_, refl, sym, _∙_}
+use native.Mathlib.Omega.{arith}
+use lib.ListN.{length, take, getD}
+use lib.Seq.{length-take-le, take-take, getD-take}
+use borrow.Author.Needs.{needs}
+use Rattle.window.specs.Window.{maxNumber, expected, held, place}
+use Rattle.window.proofs.Rises.{well-formed, rises-take, place-behind}
+use Rattle.window.proofs.Loops.{place-back}
+use Rattle.window.proofs.find_place.Statement.{statement}
+use Rattle.window.proofs.find_place.Tie as tie
+
+abbrev Inv-loop : tie.InvT-loop
+Inv-loop cells n i₀ i = (i ≤ i₀) × (place n (take i₀ cells) ≡ place n (take i cells))
+
+abbrev μ-loop : tie.MeasureT-loop
+μ-loop cells n i₀ i = i
+
+loop-holds : tie.Need-loop-holds Inv-loop μ-loop
+loop-holds c = (omega arith, refl)
+
+sub-if1 : tie.Need-sub-if1 Inv-loop μ-loop
+sub-if1 c = search needs
+
+mul-if1 : tie.Need-mul-if1 Inv-loop μ-loop
+mul-if1 c =
+    let l = c .before in
+    let a = l .before .args in
+    let wf = well-formed (a .w) (a .cells .now) (l .before .pre) in
+    search needs
+
+shared-slice-read-if1 : tie.Need-shared-slice-read-if1 Inv-loop μ-loop
+shared-slice-read-if1 c =
+    let l = c .before .before in
+    let a = l .before .args in
+    let wf = well-formed (a .w) (a .cells .now) (l .before .pre) in
+    search needs
+
+returns : tie.Need-returns Inv-loop μ-loop
+returns c =
+    let l = c .before .before .before in
+    let a = l .before .args in
+    let i = l .loop .i in
+    let wf = well-formed (a .w) (a .cells .now) (l .before .pre) in
+    let q : suc (i - 1) ≡ i = omega arith in
+    let long : length (take i (a .cells .now)) ≡ suc (i - 1) = length-take-le i (a .cells .now) (omega arith) ∙ sym q in
+    let first = rw (take-take i (a .w .count) (a .cells .now) (omega arith)) at (rises-take maxNumber (expected (a .w)) i (held (a .w) (a .cells .now)) (wf .small)) in
+    let last : getD (take i (a .cells .now)) (i - 1) 0 < a .n = rw (getD-take i (a .cells .now) (i - 1) 0 (omega arith)) (omega arith) in
+    (sym (l .loop .inv .1 ∙ place-behind maxNumber (expected (a .w)) (a .n) (i - 1) (take i (a .cells .now)) first long last ∙ q), omega arith)
+
+sub-i : tie.Need-sub-i Inv-loop μ-loop
+sub-i c = search needs
+
+loop-less : tie.Need-loop-less Inv-loop μ-loop
+loop-less c = search needs
+
+loop-again : tie.Need-loop-again Inv-loop μ-loop
+loop-again c =
+    let l = c .before .before .before in
+    let a = l .before .args in
+    let wf = well-formed (a .w) (a .cells .now) (l .before .pre) in
+    (omega arith, l .loop .inv .1 ∙ place-back (a .n) (l .loop .i) (a .cells .now) (omega arith) (omega arith) (omega arith))
+
+returns-2 : tie.Need-returns-2 Inv-loop μ-loop
+unfolding place
+returns-2 c =
+    let l = c .before in
+    let a = l .before .args in
+    let q : l .loop .i ≡ 0 = omega arith in
+    (sym (rw q at (l .loop .inv .1)), omega arith)
+
+pub find-place-spec : {M : Type 1} → statement M
+find-place-spec =
+    tie.close
+    (tie.spec
+    Inv-loop
+    μ-loop
+    loop-holds
+    sub-if1
+    mul-if1
+    shared-slice-read-if1
+    returns
+    sub-i
+    loop-less
+    loop-again
+    returns-2)

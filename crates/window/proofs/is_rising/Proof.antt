@@ -1,0 +1,123 @@
+use Prim.Native.Nat.{_-_, _≤_}
+use mathlib.Core.Path.{_≡_, refl, sym, _∙_}
+use native.Mathlib.Omega.{arith}
+use lib.ListN.{take, drop}
+use borrow.Author.Tests.{not-true, not-false}
+use borrow.Author.Needs.{needs}
+use Rattle.window.specs.Window.{rising}
+use Rattle.window.proofs.Loops.{rising-five}
+use Rattle.window.proofs.is_rising.Statement.{statement}
+use Rattle.window.proofs.is_rising.Tie as tie
+
+abbrev Inv-loop : tie.InvT-loop
+Inv-loop cells count i₀ i = (i ≤ count) × (rising (take count cells) ≡ rising (drop i (take count cells)))
+
+abbrev μ-loop : tie.MeasureT-loop
+μ-loop cells count i₀ i = count - i
+
+loop-holds : tie.Need-loop-holds Inv-loop μ-loop
+loop-holds c = (omega arith, refl)
+
+sub-loop : tie.Need-sub-loop Inv-loop μ-loop
+sub-loop c = search needs
+
+mul-five-rise : tie.Need-mul-five-rise Inv-loop μ-loop
+mul-five-rise c = search needs
+
+shared-slice-read-five-rise : tie.Need-shared-slice-read-five-rise Inv-loop μ-loop
+shared-slice-read-five-rise c = search needs
+
+add-five-rise : tie.Need-add-five-rise Inv-loop μ-loop
+add-five-rise c = search needs
+
+mul-five-rise-2 : tie.Need-mul-five-rise-2 Inv-loop μ-loop
+mul-five-rise-2 c = search needs
+
+shared-slice-read-five-rise-2 : tie.Need-shared-slice-read-five-rise-2 Inv-loop μ-loop
+shared-slice-read-five-rise-2 c = search needs
+
+add-five-rise-2 : tie.Need-add-five-rise-2 Inv-loop μ-loop
+add-five-rise-2 c = search needs
+
+mul-five-rise-3 : tie.Need-mul-five-rise-3 Inv-loop μ-loop
+mul-five-rise-3 c = search needs
+
+shared-slice-read-five-rise-3 : tie.Need-shared-slice-read-five-rise-3 Inv-loop μ-loop
+shared-slice-read-five-rise-3 c = search needs
+
+add-five-rise-3 : tie.Need-add-five-rise-3 Inv-loop μ-loop
+add-five-rise-3 c = search needs
+
+mul-five-rise-4 : tie.Need-mul-five-rise-4 Inv-loop μ-loop
+mul-five-rise-4 c = search needs
+
+shared-slice-read-five-rise-4 : tie.Need-shared-slice-read-five-rise-4 Inv-loop μ-loop
+shared-slice-read-five-rise-4 c = search needs
+
+add-five-rise-4 : tie.Need-add-five-rise-4 Inv-loop μ-loop
+add-five-rise-4 c = search needs
+
+mul-five-rise-5 : tie.Need-mul-five-rise-5 Inv-loop μ-loop
+mul-five-rise-5 c = search needs
+
+shared-slice-read-five-rise-5 : tie.Need-shared-slice-read-five-rise-5 Inv-loop μ-loop
+shared-slice-read-five-rise-5 c = search needs
+
+five-rise-requires : tie.Need-five-rise-requires Inv-loop μ-loop
+five-rise-requires c κs = search needs
+
+returns : tie.Need-returns Inv-loop μ-loop
+returns c =
+    let l = c .before .before .before .before .before .before .before .before in
+    let a = l .before .before .args in
+    let turn = rising-five (a .cells .now) (a .count) (l .loop .i) (omega arith) (omega arith) in
+    sym (l .loop .inv .1 ∙ rw (turn, sym (c .before .five-rise .ensures) ∙ not-true _ (c .if1 .taken)))
+
+add-i : tie.Need-add-i Inv-loop μ-loop
+add-i c = search needs
+
+loop-less : tie.Need-loop-less Inv-loop μ-loop
+loop-less c = search needs
+
+loop-again : tie.Need-loop-again Inv-loop μ-loop
+loop-again c =
+    let l = c .before .before .before .before .before .before .before .before in
+    let a = l .before .before .args in
+    let turn = rising-five (a .cells .now) (a .count) (l .loop .i) (omega arith) (omega arith) in
+    (omega arith, l .loop .inv .1 ∙ rw (turn, sym (c .before .five-rise .ensures) ∙ not-false _ (c .if1 .left)))
+
+is-rising-from-requires : tie.Need-is-rising-from-requires Inv-loop μ-loop
+is-rising-from-requires c κs = search needs
+
+returns-2 : tie.Need-returns-2 Inv-loop μ-loop
+returns-2 c = c .is-rising-from .ensures ∙ sym (c .before .before .loop .inv .1)
+
+pub is-rising-spec : {M : Type 1} → statement M
+is-rising-spec =
+    tie.close
+    (tie.spec
+    Inv-loop
+    μ-loop
+    loop-holds
+    sub-loop
+    mul-five-rise
+    shared-slice-read-five-rise
+    add-five-rise
+    mul-five-rise-2
+    shared-slice-read-five-rise-2
+    add-five-rise-2
+    mul-five-rise-3
+    shared-slice-read-five-rise-3
+    add-five-rise-3
+    mul-five-rise-4
+    shared-slice-read-five-rise-4
+    add-five-rise-4
+    mul-five-rise-5
+    shared-slice-read-five-rise-5
+    five-rise-requires
+    returns
+    add-i
+    loop-less
+    loop-again
+    is-rising-from-requires
+    returns-2)

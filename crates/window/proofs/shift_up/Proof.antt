@@ -1,0 +1,79 @@
+use Prim.Native.Nat.{ℕ, _+_, _-_, _≤_}
+use mathlib.Core.Path.{_≡_, refl, ap, _∙_}
+use mathlib.Core.List.{List}
+use native.Mathlib.Omega.{arith}
+use lib.ListN.{length, drop, getD, set, length-set}
+use lib.Seq.{paste, paste-zero}
+use borrow.Author.Needs.{needs}
+use Rattle.lists.proofs.Shift.{shift-up}
+use Rattle.window.proofs.shift_up.Statement.{statement}
+use Rattle.window.proofs.shift_up.Tie as tie
+
+abbrev Inv-loop : tie.InvT-loop
+Inv-loop cells₀ from count k i₀ cells i = (from ≤ i) × (i ≤ count) × (length cells ≡ length cells₀) × (cells ≡ paste cells₀ (i + k) (drop i cells₀) (count - i))
+
+abbrev μ-loop : tie.MeasureT-loop
+μ-loop cells₀ from count k i₀ cells i = i
+
+loop-holds : tie.Need-loop-holds Inv-loop μ-loop
+loop-holds c =
+    let a = c .args in
+    let z : a .count - a .count ≡ 0 = omega arith in
+    (omega arith, omega arith, refl, rw z (paste-zero (a .cells .now) (a .count + a .k) (drop (a .count) (a .cells .now))))
+
+sub-i : tie.Need-sub-i Inv-loop μ-loop
+sub-i c = search needs
+
+mul-cells : tie.Need-mul-cells Inv-loop μ-loop
+mul-cells c = search needs
+
+slice-read-cells : tie.Need-slice-read-cells Inv-loop μ-loop
+slice-read-cells c = search needs
+
+add-cells : tie.Need-add-cells Inv-loop μ-loop
+add-cells c = search needs
+
+mul-cells-2 : tie.Need-mul-cells-2 Inv-loop μ-loop
+mul-cells-2 c = search needs
+
+slice-write-cells : tie.Need-slice-write-cells Inv-loop μ-loop
+slice-write-cells c = search needs
+
+loop-less : tie.Need-loop-less Inv-loop μ-loop
+loop-less c = search needs
+
+loop-again : tie.Need-loop-again Inv-loop μ-loop
+loop-again c =
+    let l = c .before .before in
+    let a = l .before .args in
+    let i = l .loop .i in
+    let turn = shift-up (a .cells .now) 0 i (a .k) (a .count) (omega arith) (omega arith) (omega arith) in
+    (omega arith, omega arith, simp length-set (omega arith), ap (λ (x : List ℕ). set x (i - 1 + a .k) (getD x (i - 1) 0)) (l .loop .inv .3) ∙ turn)
+
+same-length : tie.Need-same-length Inv-loop μ-loop
+same-length c = search needs
+
+returns : tie.Need-returns Inv-loop μ-loop
+returns c =
+    let l = c .before in
+    let a = l .before .args in
+    let q : l .loop .i ≡ a .from = omega arith in
+    rw q at (l .loop .inv .3)
+
+pub shift-up-spec : {M : Type 1} → statement M
+shift-up-spec =
+    tie.close
+    (tie.spec
+    Inv-loop
+    μ-loop
+    loop-holds
+    sub-i
+    mul-cells
+    slice-read-cells
+    add-cells
+    mul-cells-2
+    slice-write-cells
+    loop-less
+    loop-again
+    same-length
+    returns)

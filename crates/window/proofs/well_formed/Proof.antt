@@ -1,0 +1,86 @@
+use mathlib.Core.Path.{_≡_, sym, _∙_}
+use mathlib.Core.Bool.{true}
+use native.Mathlib.Omega.{arith}
+use lib.ListN.{take}
+use borrow.Author.Needs.{needs}
+use borrow.Author.Tests.{le-leb, lt-leb, not-true, not-false}
+use Rattle.window.specs.Window.{allHoldable, wellFormed}
+use Rattle.window.proofs.Loops.{holdable-ends}
+use Rattle.window.proofs.well_formed.Statement.{statement}
+use Rattle.window.proofs.well_formed.Tie as tie
+
+returns : tie.Need-returns
+unfolding wellFormed
+returns c = simp (lt-leb _ _ (c .if1 .taken))
+
+is-rising-requires : tie.Need-is-rising-requires
+is-rising-requires c κs = search needs
+
+returns-2 : tie.Need-returns-2
+unfolding wellFormed
+returns-2 c =
+    let e = c .before .before in
+    simp (le-leb _ _ (e .if1 .left), sym (c .before .is-rising .ensures) ∙ not-true _ (c .if2 .taken))
+
+returns-3 : tie.Need-returns-3
+unfolding wellFormed allHoldable
+returns-3 c =
+    let r = c .before .before in
+    let a = r .before .before .before .args in
+    let none : allHoldable (a .w) (take (a .w .count) (a .cells .now)) ≡ true = rw (c .if3 .taken) in
+    simp (le-leb _ _ (r .before .if1 .left), sym (r .is-rising .ensures) ∙ not-false _ (c .before .if2 .left), none)
+
+sub-last : tie.Need-sub-last
+sub-last c = search needs
+
+shared-slice-read-is-holdable : tie.Need-shared-slice-read-is-holdable
+shared-slice-read-is-holdable c = search needs
+
+is-holdable-requires : tie.Need-is-holdable-requires
+is-holdable-requires c κs = search needs
+
+returns-4 : tie.Need-returns-4
+unfolding wellFormed
+returns-4 c =
+    let h = c .before in
+    let r = h .before .before .before .before in
+    let a = r .before .before .before .args in
+    let up = sym (r .is-rising .ensures) ∙ not-false _ (h .before .before .before .if2 .left) in
+    let ends = holdable-ends (a .w) (a .cells .now) (a .w .count) (omega arith) (omega arith) up in
+    simp (le-leb _ _ (r .before .if1 .left), up, ends, sym (h .is-holdable .ensures) ∙ not-true _ (c .if4 .taken))
+
+mul-is-holdable : tie.Need-mul-is-holdable
+mul-is-holdable c = search needs
+
+shared-slice-read-is-holdable-2 : tie.Need-shared-slice-read-is-holdable-2
+shared-slice-read-is-holdable-2 c = search needs
+
+is-holdable-requires-2 : tie.Need-is-holdable-requires-2
+is-holdable-requires-2 c κs = search needs
+
+returns-5 : tie.Need-returns-5
+unfolding wellFormed
+returns-5 c =
+    let h = c .before .before .before in
+    let r = h .before .before .before .before in
+    let a = r .before .before .before .args in
+    let up = sym (r .is-rising .ensures) ∙ not-false _ (h .before .before .before .if2 .left) in
+    let ends = holdable-ends (a .w) (a .cells .now) (a .w .count) (omega arith) (omega arith) up in
+    simp (le-leb _ _ (r .before .if1 .left), up, ends, sym (h .is-holdable .ensures) ∙ not-false _ (c .before .before .if4 .left)) (c .is-holdable2 .ensures)
+
+pub well-formed-spec : {M : Type 1} → statement M
+well-formed-spec =
+    tie.close
+    (tie.spec
+    returns
+    is-rising-requires
+    returns-2
+    returns-3
+    sub-last
+    shared-slice-read-is-holdable
+    is-holdable-requires
+    returns-4
+    mul-is-holdable
+    shared-slice-read-is-holdable-2
+    is-holdable-requires-2
+    returns-5)

@@ -1,0 +1,371 @@
+// utils/window.rs: the numbers that were acked and are not yet consumed, rising, in the first cells of a lent slice
+// (document 01, "From acks to the window").
+// Proved: each call says what the definition says, and leaves the window and the cells as it does, for every window and every content of the cells.
+use refusal::Refusal;
+ghost use mathlib.Core.Path.{_≡_};
+ghost use mathlib.Core.Bool.{true, _&&_};
+ghost use Prim.Native.Nat.{_+_, _-_, _≤_, _<_};
+ghost use lib.ListN.{length, take, drop, replicate};
+ghost use lib.Seq.{paste};
+ghost use lib.Dec.{ltb};
+ghost use Rattle.window.specs.Window.{maxNumber, expected, window, held, rising, holdable, wellFormed, place, numbers, beforeHeld, runLength};
+ghost use Rattle.window.specs.Window.{insertPacketNumber, insertRange, consume};
+ghost use Rattle.window.specs.Window.{insertedSays, windowAfterInsert, rangeInsertedSays, windowAfterRange, consumedSays, windowAfterConsume};
+
+// How far from the smallest expected number on a number may be held.
+pub const MAX_SLIDING_WINDOW_SIZE: u64 = 40000;
+
+// The last number of 64 bits, which no packet has.
+const MAX_NUMBER: u64 = 0xffff_ffff_ffff_ffff;
+
+pub struct SlidingWindow {
+    pub smallest_expected: u64,
+    pub count: usize,
+}
+
+pub enum Inserted {
+    Stored(SlidingWindow),
+    Refused(Refusal),
+}
+
+// At `AlreadyHeld` the numbers of the range before the first held one are stored.
+pub enum RangeInserted {
+    Stored(SlidingWindow),
+    AlreadyHeld(SlidingWindow),
+    Refused(Refusal),
+}
+
+pub enum Consumed {
+    Run {
+        last: u64,
+        length: u64,
+        window: SlidingWindow,
+    },
+    Nothing,
+    Refused(Refusal),
+}
+
+// utils/window.rs, SlidingWindow::new. The cells may hold anything.
+pub fn new(smallest_expected: u64) -> SlidingWindow
+    ensures { λ r. ⌜ r ≡ window «smallest_expected» 0 ⌝ }
+{
+    SlidingWindow {
+        smallest_expected: smallest_expected,
+        count: 0,
+    }
+}
+
+// Refusal 12's test. Rising numbers need it at their ends only.
+pub fn well_formed(w: SlidingWindow, cells: &[u64]) -> bool
+    ensures { λ r. ⌜ r ≡ wellFormed w (now (cells .entry)) ⌝ }
+{
+    let count = w.count;
+    if count > cells.len() {
+        return false;
+    }
+    if !is_rising(cells, count) {
+        return false;
+    }
+    if count == 0 {
+        return true;
+    }
+    let last = count - 1;
+    if !is_holdable(w, cells[0]) {
+        return false;
+    }
+    is_holdable(w, cells[last])
+}
+
+fn is_holdable(w: SlidingWindow, n: u64) -> bool
+    ensures { λ r. ⌜ r ≡ holdable w n ⌝ }
+{
+    let expected = w.smallest_expected;
+    if n < expected {
+        return false;
+    }
+    if n - expected >= MAX_SLIDING_WINDOW_SIZE {
+        return false;
+    }
+    n < MAX_NUMBER
+}
+
+// Four neighbours are compared to a test, which is twice as fast as one.
+fn is_rising(cells: &[u64], count: usize) -> bool
+    requires { ⌜ count ≤ length (now cells) ⌝ }
+    ensures { λ r. ⌜ r ≡ rising (take count (now (cells .entry))) ⌝ }
+{
+    let mut i = 0;
+    while count - i > 4 {
+        if !five_rise(
+            cells[i],
+            cells[i + 1],
+            cells[i + 2],
+            cells[i + 3],
+            cells[i + 4],
+        ) {
+            return false;
+        }
+        i += 4;
+    }
+    is_rising_from(cells, count, i)
+}
+
+fn five_rise(a: u64, b: u64, c: u64, d: u64, e: u64) -> bool
+    ensures { λ r. ⌜ r ≡ (ltb a b && (ltb b c && (ltb c d && ltb d e))) ⌝ }
+{
+    if a >= b {
+        return false;
+    }
+    if b >= c {
+        return false;
+    }
+    if c >= d {
+        return false;
+    }
+    d < e
+}
+
+fn is_rising_from(cells: &[u64], count: usize, from: usize) -> bool
+    requires { ⌜ (from ≤ count) × (count ≤ length (now cells)) ⌝ }
+    ensures { λ r. ⌜ r ≡ rising (drop from (take count (now (cells .entry)))) ⌝ }
+{
+    let mut i = from;
+    while count - i > 1 {
+        if cells[i] >= cells[i + 1] {
+            return false;
+        }
+        i += 1;
+    }
+    true
+}
+
+// Where n stands, or would stand. From the back, as acks come mostly in order.
+fn find_place(w: SlidingWindow, cells: &[u64], n: u64) -> usize
+    requires { ⌜ wellFormed w (now cells) ≡ true ⌝ }
+    ensures { λ r. ⌜ (r ≡ place n (held w (now (cells .entry)))) × (r ≤ w .count) ⌝ }
+{
+    let mut i = w.count;
+    while i > 0 {
+        if cells[i - 1] < n {
+            return i;
+        }
+        i -= 1;
+    }
+    0
+}
+
+// How many of the range's numbers, from base on, stand before the first that is held; `at` is base's place.
+// As the numbers rise, the first held one can stand nowhere but there.
+fn first_held(w: SlidingWindow, cells: &[u64], at: usize, base: u64, range: usize) -> usize
+    requires { ⌜ (wellFormed w (now cells) ≡ true) × (at ≡ place base (held w (now cells))) × (base + range ≤ maxNumber) ⌝ }
+    ensures { λ r. ⌜ (r ≡ beforeHeld base range (held w (now (cells .entry)))) × (r ≤ range) ⌝ }
+{
+    let count = w.count;
+    let mut i = 0;
+    let first = loop {
+        if i >= range {
+            break range;
+        }
+        if at < count {
+            if cells[at] == base + i as u64 {
+                break i;
+            }
+        }
+        i += 1;
+    };
+    first
+}
+
+// Moves the cells from `from` to count up by k.
+fn shift_up(cells: &mut [u64], from: usize, count: usize, k: usize)
+    requires { ⌜ (from ≤ count) × (count + k ≤ length (now cells)) ⌝ }
+    ensures { λ _. ⌜ now (cells .exit) ≡ paste (now (cells .entry)) (from + k) (drop from (now (cells .entry))) (count - from) ⌝ }
+{
+    let mut i = count;
+    while i > from {
+        i -= 1;
+        cells[i + k] = cells[i];
+    }
+}
+
+// Writes base, base + 1 and so on, k numbers, from the cell `at` on.
+fn fill(cells: &mut [u64], at: usize, base: u64, k: usize)
+    requires { ⌜ (at + k ≤ length (now cells)) × (base + k ≤ maxNumber) ⌝ }
+    ensures { λ _. ⌜ now (cells .exit) ≡ paste (now (cells .entry)) at (numbers base k) k ⌝ }
+{
+    let mut i = 0;
+    while i < k {
+        cells[at + i] = base + i as u64;
+        i += 1;
+    }
+}
+
+// How many numbers are held in an unbroken run from the smallest expected on.
+fn run_length(w: SlidingWindow, cells: &[u64]) -> usize
+    requires { ⌜ wellFormed w (now cells) ≡ true ⌝ }
+    ensures { λ r. ⌜ (r ≡ runLength (expected w) (held w (now (cells .entry)))) × (r ≤ w .count) ⌝ }
+{
+    let expected = w.smallest_expected;
+    let count = w.count;
+    let mut i = 0;
+    while i < count {
+        if cells[i] != expected + i as u64 {
+            return i;
+        }
+        i += 1;
+    }
+    count
+}
+
+// Moves the cells from k to count down to the first ones.
+fn shift_down(cells: &mut [u64], k: usize, count: usize)
+    requires { ⌜ (k ≤ count) × (count ≤ length (now cells)) ⌝ }
+    ensures { λ _. ⌜ now (cells .exit) ≡ paste (now (cells .entry)) 0 (drop k (now (cells .entry))) (count - k) ⌝ }
+{
+    let rest = count - k;
+    let mut i = 0;
+    while i < rest {
+        cells[i] = cells[i + k];
+        i += 1;
+    }
+}
+
+// Clears k cells from the cell `at` on.
+fn clear(cells: &mut [u64], at: usize, k: usize)
+    requires { ⌜ at + k ≤ length (now cells) ⌝ }
+    ensures { λ _. ⌜ now (cells .exit) ≡ paste (now (cells .entry)) at (replicate k 0) k ⌝ }
+{
+    let mut i = 0;
+    while i < k {
+        cells[at + i] = 0;
+        i += 1;
+    }
+}
+
+// utils/window.rs, SlidingWindow::insert_packet_number.
+pub fn insert_packet_number(w: SlidingWindow, cells: &mut [u64], n: u64) -> Inserted
+    ensures { λ r. ⌜ (insertedSays r, windowAfterInsert w r, now (cells .exit)) ≡ insertPacketNumber w (now (cells .entry)) n ⌝ }
+{
+    if !well_formed(w, cells) {
+        return Inserted::Refused(Refusal::Malformed);
+    }
+    insert_packet_number_unchecked(w, cells, n)
+}
+
+// `insert_packet_number` for a caller that has proved the window well formed.
+pub fn insert_packet_number_unchecked(w: SlidingWindow, cells: &mut [u64], n: u64) -> Inserted
+    requires { ⌜ wellFormed w (now cells) ≡ true ⌝ }
+    ensures { λ r. ⌜ (insertedSays r, windowAfterInsert w r, now (cells .exit)) ≡ insertPacketNumber w (now (cells .entry)) n ⌝ }
+{
+    let expected = w.smallest_expected;
+    let count = w.count;
+    if n < expected {
+        return Inserted::Refused(Refusal::Below);
+    }
+    if n - expected >= MAX_SLIDING_WINDOW_SIZE {
+        return Inserted::Refused(Refusal::Beyond);
+    }
+    if n == MAX_NUMBER {
+        return Inserted::Refused(Refusal::Exhausted);
+    }
+    let at = find_place(w, cells, n);
+    if first_held(w, cells, at, n, 1) == 0 {
+        return Inserted::Refused(Refusal::AlreadyHeld);
+    }
+    if count >= cells.len() {
+        return Inserted::Refused(Refusal::BufferShort);
+    }
+    shift_up(cells, at, count, 1);
+    fill(cells, at, n, 1);
+    Inserted::Stored(SlidingWindow {
+        smallest_expected: expected,
+        count: count + 1,
+    })
+}
+
+// utils/window.rs, SlidingWindow::insert_range.
+pub fn insert_range(w: SlidingWindow, cells: &mut [u64], base: u64, count: u16) -> RangeInserted
+    ensures { λ r. ⌜ (rangeInsertedSays r, windowAfterRange w r, now (cells .exit)) ≡ insertRange w (now (cells .entry)) base count ⌝ }
+{
+    if !well_formed(w, cells) {
+        return RangeInserted::Refused(Refusal::Malformed);
+    }
+    insert_range_unchecked(w, cells, base, count)
+}
+
+// `insert_range` for a caller that has proved the window well formed.
+pub fn insert_range_unchecked(
+    w: SlidingWindow,
+    cells: &mut [u64],
+    base: u64,
+    count: u16,
+) -> RangeInserted
+    requires { ⌜ wellFormed w (now cells) ≡ true ⌝ }
+    ensures { λ r. ⌜ (rangeInsertedSays r, windowAfterRange w r, now (cells .exit)) ≡ insertRange w (now (cells .entry)) base count ⌝ }
+{
+    let range = count as usize;
+    let expected = w.smallest_expected;
+    let filled = w.count;
+    if range == 0 {
+        return RangeInserted::Stored(w);
+    }
+    if base < expected {
+        return RangeInserted::Refused(Refusal::Below);
+    }
+    if base > MAX_NUMBER - count as u64 {
+        return RangeInserted::Refused(Refusal::Exhausted);
+    }
+    if base + count as u64 - 1 - expected >= MAX_SLIDING_WINDOW_SIZE {
+        return RangeInserted::Refused(Refusal::Beyond);
+    }
+    let at = find_place(w, cells, base);
+    let k = first_held(w, cells, at, base, range);
+    if k > cells.len() - filled {
+        return RangeInserted::Refused(Refusal::BufferShort);
+    }
+    shift_up(cells, at, filled, k);
+    fill(cells, at, base, k);
+    let grown = SlidingWindow {
+        smallest_expected: expected,
+        count: filled + k,
+    };
+    if k < range {
+        return RangeInserted::AlreadyHeld(grown);
+    }
+    RangeInserted::Stored(grown)
+}
+
+// utils/window.rs, SlidingWindow::consume.
+pub fn consume(w: SlidingWindow, cells: &mut [u64]) -> Consumed
+    ensures { λ r. ⌜ (consumedSays r, windowAfterConsume w r, now (cells .exit)) ≡ consume w (now (cells .entry)) ⌝ }
+{
+    if !well_formed(w, cells) {
+        return Consumed::Refused(Refusal::Malformed);
+    }
+    consume_unchecked(w, cells)
+}
+
+// `consume` for a caller that has proved the window well formed.
+pub fn consume_unchecked(w: SlidingWindow, cells: &mut [u64]) -> Consumed
+    requires { ⌜ wellFormed w (now cells) ≡ true ⌝ }
+    ensures { λ r. ⌜ (consumedSays r, windowAfterConsume w r, now (cells .exit)) ≡ consume w (now (cells .entry)) ⌝ }
+{
+    let count = w.count;
+    let k = run_length(w, cells);
+    if k == 0 {
+        return Consumed::Nothing;
+    }
+    let rest = count - k;
+    shift_down(cells, k, count);
+    clear(cells, rest, k);
+    let length = k as u64;
+    let next = w.smallest_expected + length;
+    Consumed::Run {
+        last: next - 1,
+        length: length,
+        window: SlidingWindow {
+            smallest_expected: next,
+            count: rest,
+        },
+    }
+}
