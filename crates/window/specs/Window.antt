@@ -81,6 +81,10 @@ allHoldable w (x ∷ xs) = holdable w x && allHoldable w xs
 unfoldable pub wellFormed : SlidingWindow → List ℕ → Bool
 wellFormed w cells = leb (w .count) (length cells) && rising (held w cells) && allHoldable w (held w cells)
 
+-- "12 comes first everywhere"
+abbrev pub unlessMalformed : {A : Type 0} → SlidingWindow → List ℕ → Outcome A → Outcome A
+unlessMalformed w cells = checks ((not (wellFormed w cells), 12) ∷ []) (refused w cells)
+
 -- Storing k numbers, b and those after it, of which none is held
 
 -- n's place among rising numbers: how many from the front on are below it
@@ -105,11 +109,10 @@ grown w k = window (expected w) (w .count + k)
 -- "Insert n: below the smallest expected, 5; distance 40,000 or more, 6; n = 2^64 − 1, 9; present, 7; no cell, 10"
 
 abbrev pub insertChecks : SlidingWindow → List ℕ → ℕ → List (Bool × ℕ)
-insertChecks w cells n =
-    (not (wellFormed w cells), 12) ∷ (below w n, 5) ∷ (beyond w n, 6) ∷ (exhausted n, 9) ∷ (member n (held w cells), 7) ∷ (tooFew w cells 1, 10) ∷ []
+insertChecks w cells n = (below w n, 5) ∷ (beyond w n, 6) ∷ (exhausted n, 9) ∷ (member n (held w cells), 7) ∷ (tooFew w cells 1, 10) ∷ []
 
 unfoldable pub insertPacketNumber : SlidingWindow → List ℕ → ℕ → Outcome Unit
-insertPacketNumber w cells n = checks (insertChecks w cells n) (refused w cells) (answers tt, grown w 1, storedCells w cells n 1)
+insertPacketNumber w cells n = unlessMalformed w cells (checks (insertChecks w cells n) (refused w cells) (answers tt, grown w 1, storedCells w cells n 1))
 
 -- "`insert_range`: count 0 is accepted unchecked; base below, 5; base + count above 2^64 − 1, 9; last number's distance 40,000 or more, 6;
 -- then find the first number already held, and store those before it: 10 if the cells are too few (nothing stored), 7 if one was held"
@@ -130,7 +133,7 @@ insertBefore w cells base count k =
 
 unfoldable pub insertRange : SlidingWindow → List ℕ → ℕ → ℕ → Outcome Unit
 insertRange w cells base count =
-    checks ((not (wellFormed w cells), 12) ∷ []) (refused w cells)
+    unlessMalformed w cells
     (cond (eqb count 0) (answers tt, w, cells) (insertBefore w cells base count (beforeHeld base count (held w cells))))
 
 -- "`consume`: none if the smallest expected is absent; otherwise it drops the unbroken run from it, answers the run's last number and length,
@@ -153,7 +156,7 @@ consumeRun w cells k =
     cond (eqb k 0) (answers none, w, cells) (answers (some (expected w + k - 1, k)), advanced w k, consumedCells w cells k)
 
 unfoldable pub consume : SlidingWindow → List ℕ → Outcome (Option (ℕ × ℕ))
-consume w cells = checks ((not (wellFormed w cells), 12) ∷ []) (refused w cells) (consumeRun w cells (runLength (expected w) (held w cells)))
+consume w cells = unlessMalformed w cells (consumeRun w cells (runLength (expected w) (held w cells)))
 
 -- What each call's answer says, and the window that it leaves where it came with w
 

@@ -1,3 +1,5 @@
+-- `clear`: before turn i the cells are as they came, but i zeros from `at` on.
+-- Assumes nothing.
 use Prim.Native.Nat.{ℕ, _+_, _-_, _≤_}
 use mathlib.Core.Path.{_≡_, refl, ap, _∙_}
 use mathlib.Core.List.{List}

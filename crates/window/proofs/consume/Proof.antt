@@ -1,3 +1,5 @@
+-- `consume`: the test of 12, then the unchecked call.
+-- Assumes nothing.
 use mathlib.Core.Path.{sym, _∙_}
 use borrow.Author.Needs.{needs}
 use borrow.Author.Tests.{not-true, not-false}

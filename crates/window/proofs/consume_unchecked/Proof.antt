@@ -1,3 +1,5 @@
+-- `consume_unchecked`: a shift down and a clearing are what the definition leaves.
+-- Assumes nothing.
 use mathlib.Core.Path.{sym}
 use native.Mathlib.Omega.{arith}
 use borrow.Author.Needs.{needs}

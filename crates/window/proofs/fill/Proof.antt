@@ -1,3 +1,5 @@
+-- `fill`: before turn i the cells are as they came, but the first i numbers from `at` on.
+-- Assumes nothing.
 use Prim.Native.Nat.{ℕ, _+_, _-_, _≤_}
 use mathlib.Core.Path.{_≡_, refl, ap, _∙_}
 use mathlib.Core.List.{List}

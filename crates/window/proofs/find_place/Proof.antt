@@ -1,3 +1,5 @@
+-- `find_place`: n's place among all numbers held is its place among the first i; it stops behind the last number below n.
+-- Assumes nothing.
 use Prim.Native.Nat.{suc, _-_, _≤_, _<_}
 use mathlib.Core.Path.{_≡_, refl, sym, _∙_}
 use native.Mathlib.Omega.{arith}

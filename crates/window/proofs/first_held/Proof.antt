@@ -1,3 +1,5 @@
+-- `first_held`: the first i numbers of the range are not held, and the number at base's place is not below base + i.
+-- Assumes nothing.
 use Prim.Native.Nat.{_+_, _-_, _≤_, _<_}
 use mathlib.Core.Path.{_≡_, _∙_}
 use mathlib.Core.Logic.{⊎-elim}

@@ -1,3 +1,5 @@
+-- `five_rise`, by its four tests.
+-- Assumes nothing.
 use borrow.Author.Tests.{lt-ltb, le-ltb}
 use Rattle.window.proofs.five_rise.Statement.{statement}
 use Rattle.window.proofs.five_rise.Tie as tie

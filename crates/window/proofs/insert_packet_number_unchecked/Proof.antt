@@ -1,3 +1,5 @@
+-- `insert_packet_number_unchecked`, by its tests in order; a shift by one and a fill of one are what the definition stores.
+-- Assumes nothing.
 use Prim.Native.Nat.{_+_, _≤_, _<_}
 use mathlib.Core.Path.{_≡_, sym, _∙_}
 use mathlib.Core.Bool.{false}

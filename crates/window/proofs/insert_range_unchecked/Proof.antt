@@ -1,3 +1,5 @@
+-- `insert_range_unchecked`, by its tests in order; a shift and a fill are what the definition stores.
+-- Assumes nothing.
 use Prim.Native.Nat.{ℕ, _+_, _-_, _≤_, _<_}
 use mathlib.Core.Path.{_≡_, sym, subst}
 use mathlib.Core.Bool.{cond}

@@ -1,3 +1,5 @@
+-- `is_rising_from`: the numbers from `from` on rise if those from i on do.
+-- Assumes nothing.
 use Prim.Native.Nat.{_-_, _≤_}
 use mathlib.Core.Path.{_≡_, refl, sym, _∙_}
 use native.Mathlib.Omega.{arith}

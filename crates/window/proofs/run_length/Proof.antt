@@ -1,3 +1,5 @@
+-- `run_length`: the first i numbers held are the run's first i.
+-- Assumes nothing.
 use Prim.Native.Nat.{_+_, _-_, _≤_}
 use mathlib.Core.Path.{_≡_, sym, _∙_}
 use native.Mathlib.Omega.{arith}

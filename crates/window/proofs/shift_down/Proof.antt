@@ -1,3 +1,5 @@
+-- `shift_down`: before turn i the cells are as they came, but the first i of those from k on stand in front.
+-- Assumes nothing.
 use Prim.Native.Nat.{ℕ, _+_, _-_, _≤_}
 use mathlib.Core.Path.{_≡_, refl, ap, _∙_}
 use mathlib.Core.List.{List}

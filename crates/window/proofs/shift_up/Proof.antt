@@ -1,3 +1,5 @@
+-- `shift_up`: with i left to move, the cells are as they came, but those from i to count stand k further up.
+-- Assumes nothing.
 use Prim.Native.Nat.{ℕ, _+_, _-_, _≤_}
 use mathlib.Core.Path.{_≡_, refl, ap, _∙_}
 use mathlib.Core.List.{List}

@@ -1,3 +1,5 @@
+-- `well_formed`: rising numbers may all be held where the first and the last may.
+-- Assumes nothing.
 use mathlib.Core.Path.{_≡_, sym, _∙_}
 use mathlib.Core.Bool.{true}
 use native.Mathlib.Omega.{arith}

@@ -1,0 +1,214 @@
+-- What a call on a well-formed window says and which numbers are held after it; and that any list of calls keeps the window well formed.
+-- These are the laws that other crates cite. Assumes nothing.
+use Prim.Native.Nat.{ℕ, _+_, _-_, _≤_, _<_}
+use mathlib.Core.Path.{_≡_, refl, sym, ap, _∙_}
+use mathlib.Core.Bool.{Bool, true, false, not, cond, _&&_, _||_}
+use mathlib.Core.List.{List, [], _∷_}
+use mathlib.Core.Logic.{inl, inr}
+use mathlib.Core.Option.{Option, none, some}
+use native.Mathlib.Omega.{arith}
+use lib.ListN.{length}
+use lib.Dec.{ltb, leb, eqb}
+use borrow.Author.Tests.{ltb-true, ltb-false, leb-true, leb-false, le-ltb, eqb-true, eqb-false, not-true}
+use Rattle.refusal.specs.Said.{Said, answers, refuses, checks}
+use Rattle.refusal.proofs.Checks.{Passed, Failed, Checked, passes, fails, checked}
+use Rattle.window.specs.declared.SlidingWindow.{SlidingWindow}
+use Rattle.window.specs.Window.{windowSize, maxNumber, Outcome, refused, expected, window, held, member, wellFormed, storedCells, grown, insertChecks, insertPacketNumber, beforeHeld, rangeChecks, insertBefore, insertRange, runLength, consumedCells, advanced, consume}
+use Rattle.window.proofs.Rises.{WellFormed, both, well-formed, well-formed-is}
+use Rattle.window.proofs.Members.{among, member-stored, before-free, before-within, before-held, run-held, run-ends, run-dropped}
+use Rattle.window.proofs.Kept.{held-stored, held-consumed, stored-keeps, consumed-keeps}
+
+-- after a call that came to o: n is held if it is one of the k numbers from b on, or was held before
+abbrev pub Adds : SlidingWindow → List ℕ → Outcome Unit → ℕ → ℕ → Type 0
+Adds w cells o b k = (expected (o .1) ≡ expected w) × ((n : ℕ) → member n (held (o .1) (o .2)) ≡ (among b k n || member n (held w cells)))
+
+-- `insert_packet_number`: n is stored, or nothing has changed
+pub data Insertion (w : SlidingWindow) (cells : List ℕ) (n : ℕ) (o : Outcome Unit) : Type 0 where
+  stores : o .0 ≡ answers tt → member n (held w cells) ≡ false → Adds w cells o n 1 → Insertion w cells n o
+  refusal : (r : ℕ) → o ≡ refused w cells r → (r ≡ 12 → ⊥) → Insertion w cells n o
+
+-- `insert_range`: the whole range is stored, or the k numbers before the first held one, or nothing has changed
+pub data RangeInsertion (w : SlidingWindow) (cells : List ℕ) (base count : ℕ) (o : Outcome Unit) : Type 0 where
+  stores : o .0 ≡ answers tt → ((i : ℕ) → i < count → member (base + i) (held w cells) ≡ false) → Adds w cells o base count → RangeInsertion w cells base count o
+  stops : (k : ℕ) → k < count → o .0 ≡ refuses 7 → ((i : ℕ) → i < k → member (base + i) (held w cells) ≡ false) → member (base + k) (held w cells) ≡ true
+      → Adds w cells o base k → RangeInsertion w cells base count o
+  refusal : (r : ℕ) → o ≡ refused w cells r → (r ≡ 7 → ⊥) → (r ≡ 12 → ⊥) → RangeInsertion w cells base count o
+
+-- `consume`: the unbroken run from the smallest expected number on is dropped, or that number is absent and nothing has changed
+pub data Consumption (w : SlidingWindow) (cells : List ℕ) (o : Outcome (Option (ℕ × ℕ))) : Type 0 where
+  run : (last size : ℕ) → o .0 ≡ answers (some (last, size)) → 0 < size → last + 1 ≡ expected w + size → expected (o .1) ≡ last + 1
+      → ((n : ℕ) → expected w ≤ n → n ≤ last → member n (held w cells) ≡ true) → member (last + 1) (held w cells) ≡ false
+      → ((n : ℕ) → member n (held (o .1) (o .2)) ≡ (leb (last + 1) n && member n (held w cells))) → Consumption w cells o
+  nothing : o ≡ (answers none, w, cells) → member (expected w) (held w cells) ≡ false → Consumption w cells o
+
+-- a number that no check has is not the one refused with
+abbrev lacks : ℕ → List (Bool × ℕ) → Bool
+lacks n [] = true
+lacks n (c ∷ cs) = not (eqb (c .1) n) && lacks n cs
+
+not-refused : (n : ℕ) (cs : List (Bool × ℕ)) → lacks n cs ≡ true → Failed cs n → ⊥
+not-refused n [] l f = f
+not-refused n (c ∷ cs) l (inl (e, q)) = eqb-false (c .1) n (not-true _ (both (not (eqb (c .1) n)) (lacks n cs) l .0)) q
+not-refused n (c ∷ cs) l (inr (e, f)) = not-refused n cs (both (not (eqb (c .1) n)) (lacks n cs) l .1) f
+
+module _ (w : SlidingWindow) (cells : List ℕ) (h : wellFormed w cells ≡ true) where
+  adds : (s : Said Unit) (b k : ℕ) → Adds w cells (s, grown w k, storedCells w cells b k) b k
+  adds s b k = (refl, λ n. ap (member n) (held-stored w cells (well-formed w cells h) b k) ∙ member-stored n b k (held w cells))
+
+  -- `insert_packet_number`
+  one-free : (n : ℕ) → member n (held w cells) ≡ false → beforeHeld n 1 (held w cells) ≡ 1
+  unfolding beforeHeld
+  one-free n q = rw q
+
+  abbrev one : ℕ → Outcome Unit
+  one n = (answers tt, grown w 1, storedCells w cells n 1)
+
+  insert-passed : (n : ℕ) → Passed (insertChecks w cells n) →
+      let o = one n in
+      Insertion w cells n o × (wellFormed (o .1) (o .2) ≡ true)
+  insert-passed n p =
+      let low = ltb-false n (expected w) (p .0) in
+      let near = leb-false windowSize (n - expected w) (p .1 .0) in
+      let small = leb-false maxNumber n (p .1 .1 .0) in
+      let new = p .1 .1 .1 .0 in
+      let room = ltb-false (length cells) (w .count + 1) (p .1 .1 .1 .1 .0) in
+      let q = one-free n new in
+      let keeps = stored-keeps w cells (well-formed w cells h) n 1 low (rw q (omega arith)) (rw q (omega arith)) (rw q room) in
+      (stores refl new (adds (answers tt) n 1), well-formed-is (grown w 1) (storedCells w cells n 1) (rw q at keeps))
+
+  insert-failed : (n r : ℕ) → Failed (insertChecks w cells n) r → Insertion w cells n (refused w cells r)
+  insert-failed n r f = refusal r refl (λ q. not-refused 12 (insertChecks w cells n) refl (rw q at f))
+
+  pub insert-law : (n : ℕ) → let o = insertPacketNumber w cells n in Insertion w cells n o × (wellFormed (o .1) (o .2) ≡ true)
+  unfolding insertPacketNumber
+  insert-law n = rw h (by (checked (refused w cells) (one n) (insertChecks w cells n)))
+    where
+      by : Checked (insertChecks w cells n) (refused w cells) (one n) →
+          let o = checks (insertChecks w cells n) (refused w cells) (one n) in
+          Insertion w cells n o × (wellFormed (o .1) (o .2) ≡ true)
+      by (passes p q) = rw q (insert-passed n p)
+      by (fails r f q) = rw q (insert-failed n r f, h)
+
+  -- `insert_range`
+  abbrev stopped : ℕ → ℕ → Bool → Outcome Unit
+  stopped base k t = (cond t (refuses 7) (answers tt), grown w k, storedCells w cells base k)
+
+  range-stored : (base count : ℕ) (t : Bool) →
+      let k = beforeHeld base count (held w cells) in
+      ltb k count ≡ t → RangeInsertion w cells base count (stopped base k t)
+  range-stored base count true q =
+      let k = beforeHeld base count (held w cells) in
+      let l = ltb-true k count q in
+      stops k l refl (λ i m. before-free base count i (held w cells) m) (before-held base count (held w cells) l) (adds (refuses 7) base k)
+  range-stored base count false q =
+      let l = ltb-false (beforeHeld base count (held w cells)) count q in
+      let m = before-within base count (held w cells) in
+      let all : beforeHeld base count (held w cells) ≡ count = omega arith in
+      rw all (stores refl (λ i n. before-free base count i (held w cells) (rw all n)) (adds (answers tt) base count))
+
+  range-passed : (base count : ℕ) → (count ≡ 0 → ⊥) →
+      let k = beforeHeld base count (held w cells) in
+      Passed (rangeChecks w cells base count k) → WellFormed (grown w k) (storedCells w cells base k)
+  range-passed base count any p =
+      let k = beforeHeld base count (held w cells) in
+      let low = ltb-false base (expected w) (p .0) in
+      let small = ltb-false maxNumber (base + count) (p .1 .0) in
+      let near = leb-false windowSize (base + count - 1 - expected w) (p .1 .1 .0) in
+      let room = ltb-false (length cells) (w .count + k) (p .1 .1 .1 .0) in
+      let within = before-within base count (held w cells) in
+      stored-keeps w cells (well-formed w cells h) base count low (omega arith) (omega arith) room
+
+  range-some : (base count : ℕ) → (count ≡ 0 → ⊥) →
+      let o = insertBefore w cells base count (beforeHeld base count (held w cells)) in
+      RangeInsertion w cells base count o × (wellFormed (o .1) (o .2) ≡ true)
+  range-some base count any =
+      let k = beforeHeld base count (held w cells) in
+      by (checked (refused w cells) (stopped base k (ltb k count)) (rangeChecks w cells base count k))
+    where
+      by : let k = beforeHeld base count (held w cells) in
+          Checked (rangeChecks w cells base count k) (refused w cells) (stopped base k (ltb k count)) →
+          let o = insertBefore w cells base count k in
+          RangeInsertion w cells base count o × (wellFormed (o .1) (o .2) ≡ true)
+      by (passes p q) =
+          let k = beforeHeld base count (held w cells) in
+          rw q (range-stored base count (ltb k count) refl, well-formed-is (grown w k) (storedCells w cells base k) (range-passed base count any p))
+      by (fails r f q) =
+          let cs = rangeChecks w cells base count (beforeHeld base count (held w cells)) in
+          rw q (refusal r refl (λ e. not-refused 7 cs refl (rw e at f)) (λ e. not-refused 12 cs refl (rw e at f)), h)
+
+  pub range-law : (base count : ℕ) → let o = insertRange w cells base count in RangeInsertion w cells base count o × (wellFormed (o .1) (o .2) ≡ true)
+  unfolding insertRange
+  range-law base count = rw h (by (eqb count 0) refl)
+    where
+      none-among : (n : ℕ) (t : Bool) → leb base n ≡ t → member n (held w cells) ≡ (t && ltb n (base + 0) || member n (held w cells))
+      none-among n true q = let l = leb-true base n q in rw (le-ltb n (base + 0) (omega arith))
+      none-among n false q = refl
+
+      by : (t : Bool) → eqb count 0 ≡ t →
+          let o : Outcome Unit = cond t (answers tt, w, cells) (insertBefore w cells base count (beforeHeld base count (held w cells))) in
+          RangeInsertion w cells base count o × (wellFormed (o .1) (o .2) ≡ true)
+      by true q =
+          let z = eqb-true count 0 q in
+          (stores refl (λ i l. absurd (omega arith)) (refl, λ n. rw z (none-among n (leb base n) refl)), h)
+      by false q = range-some base count (eqb-false count 0 q)
+
+  -- `consume`
+  pub consume-law : let o = consume w cells in Consumption w cells o × (wellFormed (o .1) (o .2) ≡ true)
+  unfolding consume
+  consume-law = rw h (by (eqb k 0) refl)
+    where
+      e : ℕ
+      e = expected w
+
+      k : ℕ
+      k = runLength e (held w cells)
+
+      by : (t : Bool) → eqb k 0 ≡ t →
+          let o : Outcome (Option (ℕ × ℕ)) = cond t (answers none, w, cells) (answers (some (e + k - 1, k)), advanced w k, consumedCells w cells k) in
+          Consumption w cells o × (wellFormed (o .1) (o .2) ≡ true)
+      by true q =
+          let z : e + k ≡ e = let y = eqb-true k 0 q in omega arith in
+          (nothing refl (rw z at (run-ends maxNumber e (held w cells) (well-formed w cells h .small))), h)
+      by false q =
+          let d = eqb-false k 0 q in
+          let wf = well-formed w cells h in
+          let z : e + k - 1 + 1 ≡ e + k = omega arith in (
+            run (e + k - 1) k refl (omega arith) z (sym z)
+                (λ n l m. run-held e n (held w cells) l (omega arith))
+                (rw z (run-ends maxNumber e (held w cells) (wf .small)))
+                (λ n. rw z (ap (member n) (held-consumed w cells wf k) ∙ run-dropped maxNumber e n (held w cells) (wf .small))),
+            well-formed-is (advanced w k) (consumedCells w cells k) (consumed-keeps w cells wf),
+          )
+
+-- a new window is well formed on any cells, and holds nothing
+pub new-well-formed : (s : ℕ) (cells : List ℕ) → wellFormed (window s 0) cells ≡ true
+new-well-formed s cells = well-formed-is (window s 0) cells (record { fits = omega arith; near = tt; small = tt })
+
+pub new-empty : (s n : ℕ) (cells : List ℕ) → member n (held (window s 0) cells) ≡ false
+unfolding member
+new-empty s n cells = refl
+
+-- Any list of calls, and the window and cells that it leaves
+
+pub data Call : Type 0 where
+  inserts : ℕ → Call
+  insertsRange : ℕ → ℕ → Call
+  consumes : Call
+
+abbrev pub after : Call → SlidingWindow × List ℕ → SlidingWindow × List ℕ
+after (inserts n) (w, cells) = let o = insertPacketNumber w cells n in (o .1, o .2)
+after (insertsRange base count) (w, cells) = let o = insertRange w cells base count in (o .1, o .2)
+after consumes (w, cells) = let o = consume w cells in (o .1, o .2)
+
+abbrev pub afterAll : List Call → SlidingWindow × List ℕ → SlidingWindow × List ℕ
+afterAll [] s = s
+afterAll (c ∷ cs) s = afterAll cs (after c s)
+
+after-keeps : (c : Call) (s : SlidingWindow × List ℕ) → wellFormed (s .0) (s .1) ≡ true → wellFormed (after c s .0) (after c s .1) ≡ true
+after-keeps (inserts n) (w, cells) h = insert-law w cells h n .1
+after-keeps (insertsRange base count) (w, cells) h = range-law w cells h base count .1
+after-keeps consumes (w, cells) h = consume-law w cells h .1
+
+pub calls-keep : (cs : List Call) (s : SlidingWindow × List ℕ) → wellFormed (s .0) (s .1) ≡ true → wellFormed (afterAll cs s .0) (afterAll cs s .1) ≡ true
+calls-keep [] s h = h
+calls-keep (c ∷ cs) s h = calls-keep cs (after c s) (after-keeps c s h)

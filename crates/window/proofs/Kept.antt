@@ -1,0 +1,114 @@
+-- The numbers that a call stores or leaves rise within the window's bounds again, so every call keeps a well-formed window well formed.
+-- Assumes nothing.
+use Prim.Native.Nat.{ℕ, zero, suc, _+_, _-_, _≤_, _<_, zero-le, suc-le-suc}
+use mathlib.Core.Path.{_≡_, refl, sym, ap, _∙_}
+use mathlib.Core.Bool.{Bool, true, false, cond, true≢false}
+use mathlib.Core.List.{List, [], _∷_, _++_, append-assoc}
+use native.Mathlib.Omega.{arith}
+use lib.ListN.{length, take, drop, getD, replicate, length-append, length-drop, take-append-drop}
+use lib.Seq.{length-take-le, take-at}
+use lib.Dec.{ltb, eqb}
+use borrow.Author.Tests.{ltb-true, ltb-false, eqb-true}
+use Rattle.window.specs.declared.SlidingWindow.{SlidingWindow}
+use Rattle.window.specs.Window.{windowSize, maxNumber, expected, held, place, numbers, stored, storedCells, grown, beforeHeld, runLength, consumedCells, advanced}
+use Rattle.window.proofs.Rises.{Rises, WellFormed, is-member, place-from}
+use Rattle.window.proofs.Loops.{length-numbers}
+use Rattle.window.proofs.Members.{before-free}
+
+module _ (hi : ℕ) where
+  rises-numbers : (lo b k : ℕ) (ys : List ℕ) → lo ≤ b → b + k ≤ hi → Rises (b + k) hi ys → Rises lo hi (numbers b k ++ ys)
+  unfolding numbers
+  rises-numbers lo b zero [] l h r = tt
+  rises-numbers lo b zero (y ∷ ys) l h r = (omega arith, r .1, r .2)
+  rises-numbers lo b (suc k) ys l h r =
+      let z : b + suc k ≡ suc b + k = omega arith in
+      (l, omega arith, rises-numbers (suc b) (suc b) k ys (omega arith) (omega arith) (rw z at r))
+
+  rises-stored : (lo b k : ℕ) (xs : List ℕ) → Rises lo hi xs → lo ≤ b → b + k ≤ hi → (place b xs < length xs → b + k ≤ getD xs (place b xs) 0)
+      → Rises lo hi (stored b k xs)
+  unfolding place
+  rises-stored lo b k [] r l h f = rises-numbers lo b k [] l h tt
+  rises-stored lo b k (x ∷ xs) r l h f = by (ltb x b) refl (λ m. rises-stored (suc x) b k xs (r .2) m h) f
+    where
+      by : (t : Bool) → ltb x b ≡ t → (suc x ≤ b → (place b xs < length xs → b + k ≤ getD xs (place b xs) 0) → Rises (suc x) hi (stored b k xs)) →
+          let p = cond t (suc (place b xs)) zero in
+          (p < length (x ∷ xs) → b + k ≤ getD (x ∷ xs) p 0) → Rises lo hi (take p (x ∷ xs) ++ numbers b k ++ drop p (x ∷ xs))
+      by true q ih f = (r .0, r .1, ih (ltb-true x b q) (λ p. f (suc-le-suc p)))
+      by false q ih f = rises-numbers lo b k (x ∷ xs) l h (f (suc-le-suc zero-le), r .1, r .2)
+
+  rises-dropped : (e : ℕ) (xs : List ℕ) → Rises e hi xs → Rises (e + runLength e xs) hi (drop (runLength e xs) xs)
+  unfolding runLength
+  rises-dropped e [] r = tt
+  rises-dropped e (x ∷ xs) r = by (eqb x e) refl (rises-dropped (suc e) xs)
+    where
+      by : (t : Bool) → eqb x e ≡ t → (Rises (suc e) hi xs → Rises (suc e + runLength (suc e) xs) hi (drop (runLength (suc e) xs) xs)) →
+          let k = cond t (suc (runLength (suc e) xs)) zero in
+          Rises (e + k) hi (drop k (x ∷ xs))
+      by true q ih =
+          let z : e + suc (runLength (suc e) xs) ≡ suc e + runLength (suc e) xs = omega arith in
+          rw z (ih (rw (eqb-true x e q) at (r .2)))
+      by false q ih = (omega arith, r .1, r .2)
+
+  rises-wider : (lo top : ℕ) (xs : List ℕ) → hi ≤ top → Rises lo hi xs → Rises lo top xs
+  rises-wider lo top [] h r = tt
+  rises-wider lo top (x ∷ xs) h r = (r .0, omega arith, rises-wider (suc x) top xs h (r .2))
+
+-- the numbers before the first held one stand below the one at their place
+before-below : (b k : ℕ) (xs : List ℕ) → place b xs < length xs → b + beforeHeld b k xs ≤ getD xs (place b xs) 0
+before-below b k xs h = by (ltb y (b + beforeHeld b k xs)) refl
+  where
+    y : ℕ
+    y = getD xs (place b xs) 0
+
+    from : b ≤ y
+    from = place-from b xs h
+
+    by : (t : Bool) → ltb y (b + beforeHeld b k xs) ≡ t → b + beforeHeld b k xs ≤ y
+    by true q =
+        let l = ltb-true y (b + beforeHeld b k xs) q in
+        let m = from in
+        let z : b + (y - b) ≡ y = omega arith in
+        absurd (true≢false (sym (is-member y (place b xs) xs h refl) ∙ rw z at (before-free b k (y - b) xs (omega arith))))
+    by false q = ltb-false y (b + beforeHeld b k xs) q
+
+-- the numbers held afterwards: those in front of the cells that stay
+length-stored : (b k : ℕ) (xs : List ℕ) → length (stored b k xs) ≡ length xs + k
+length-stored b k xs =
+    let front = take (place b xs) xs in
+    let all = sym (length-append front (drop (place b xs) xs)) ∙ ap length (take-append-drop (place b xs) xs) in
+    rw (length-append (front ++ numbers b k), length-append front, length-numbers b k) (omega arith)
+
+module _ (w : SlidingWindow) (cells : List ℕ) (h : WellFormed w cells) where
+  length-held : length (held w cells) ≡ w .count
+  length-held = length-take-le (w .count) cells (h .fits)
+
+  pub held-stored : (b k : ℕ) → held (grown w k) (storedCells w cells b k) ≡ stored b k (held w cells)
+  held-stored b k = take-at (stored b k (held w cells)) (drop (w .count + k) cells) (w .count + k) (length-stored b k (held w cells) ∙ rw length-held)
+
+  pub held-consumed : (k : ℕ) → held (advanced w k) (consumedCells w cells k) ≡ drop k (held w cells)
+  held-consumed k =
+      let rest = drop k (held w cells) in
+      ap (take (w .count - k)) (append-assoc rest (replicate k 0) (drop (w .count) cells))
+      ∙ take-at rest (replicate k 0 ++ drop (w .count) cells) (w .count - k) (length-drop k (held w cells) ∙ rw length-held)
+
+  pub stored-keeps : (b n : ℕ) →
+      let k = beforeHeld b n (held w cells) in
+      expected w ≤ b → b + k ≤ expected w + windowSize → b + k ≤ maxNumber → w .count + k ≤ length cells → WellFormed (grown w k) (storedCells w cells b k)
+  stored-keeps b n l near small room =
+      let k = beforeHeld b n (held w cells) in
+      record {
+        fits = rw (length-append, length-stored b k (held w cells), length-held) (omega arith);
+        near = rw (held-stored b k) (rises-stored (expected w + windowSize) (expected w) b k (held w cells) (h .near) l near (before-below b n (held w cells)));
+        small = rw (held-stored b k) (rises-stored maxNumber (expected w) b k (held w cells) (h .small) l small (before-below b n (held w cells)));
+      }
+
+  pub consumed-keeps : let k = runLength (expected w) (held w cells) in WellFormed (advanced w k) (consumedCells w cells k)
+  consumed-keeps =
+      let e = expected w in
+      let k = runLength e (held w cells) in
+      let wider = rises-wider (e + windowSize) (e + k) (e + k + windowSize) (drop k (held w cells)) (omega arith) (rises-dropped (e + windowSize) e (held w cells) (h .near)) in
+      record {
+        fits = rw (length-append, length-append, length-drop, length-held) (omega arith);
+        near = rw (held-consumed k) wider;
+        small = rw (held-consumed k) (rises-dropped maxNumber e (held w cells) (h .small));
+      }
