@@ -13,14 +13,21 @@ use borrow.Author.Tests.{ltb-true, ltb-false, leb-true, leb-false, le-ltb, eqb-t
 use Rattle.refusal.specs.Said.{Said, answers, refuses, checks}
 use Rattle.refusal.proofs.Checks.{Passed, Failed, Checked, passes, fails, checked}
 use Rattle.window.specs.declared.SlidingWindow.{SlidingWindow}
-use Rattle.window.specs.Window.{windowSize, maxNumber, Outcome, refused, expected, window, held, member, wellFormed, storedCells, grown, insertChecks, insertPacketNumber, beforeHeld, rangeChecks, insertBefore, insertRange, runLength, consumedCells, advanced, consume}
+use Rattle.window.specs.Window.{windowSize, maxNumber, Outcome, refused, expected, window, held, member, wellFormed}
+use Rattle.window.specs.Window.{storedCells, grown, insertChecks, insertPacketNumber, beforeHeld, rangeChecks, insertBefore, insertRange, runLength, consumedCells, advanced, consume}
 use Rattle.window.proofs.Rises.{WellFormed, both, well-formed, well-formed-is}
 use Rattle.window.proofs.Members.{among, member-stored, before-free, before-within, before-held, run-held, run-ends, run-dropped}
 use Rattle.window.proofs.Kept.{held-stored, held-consumed, stored-keeps, consumed-keeps}
 
--- after a call that came to o: n is held if it is one of the k numbers from b on, or was held before
-abbrev pub Adds : SlidingWindow → List ℕ → Outcome Unit → ℕ → ℕ → Type 0
-Adds w cells o b k = (expected (o .1) ≡ expected w) × ((n : ℕ) → member n (held (o .1) (o .2)) ≡ (among b k n || member n (held w cells)))
+-- a call that came to o leaves the window well formed
+abbrev pub Keeps : {A : Type 0} → Outcome A → Type 0
+Keeps o = wellFormed (o .1) (o .2) ≡ true
+
+-- after a call that came to o a number is held if it is one of the k from b on, none of them below the smallest expected, or was held before
+pub record Adds (w : SlidingWindow) (cells : List ℕ) (o : Outcome Unit) (b k : ℕ) : Type 0 where
+  pub same : expected (o .1) ≡ expected w
+  pub above : 0 < k → expected w ≤ b
+  pub members : (n : ℕ) → member n (held (o .1) (o .2)) ≡ (among b k n || member n (held w cells))
 
 -- `insert_packet_number`: n is stored, or nothing has changed
 pub data Insertion (w : SlidingWindow) (cells : List ℕ) (n : ℕ) (o : Outcome Unit) : Type 0 where
@@ -52,8 +59,13 @@ not-refused n (c ∷ cs) l (inl (e, q)) = eqb-false (c .1) n (not-true _ (both (
 not-refused n (c ∷ cs) l (inr (e, f)) = not-refused n cs (both (not (eqb (c .1) n)) (lacks n cs) l .1) f
 
 module _ (w : SlidingWindow) (cells : List ℕ) (h : wellFormed w cells ≡ true) where
-  adds : (s : Said Unit) (b k : ℕ) → Adds w cells (s, grown w k, storedCells w cells b k) b k
-  adds s b k = (refl, λ n. ap (member n) (held-stored w cells (well-formed w cells h) b k) ∙ member-stored n b k (held w cells))
+  adds : (s : Said Unit) (b k : ℕ) → expected w ≤ b → Adds w cells (s, grown w k, storedCells w cells b k) b k
+  adds s b k low =
+      record {
+        same = refl;
+        above = λ l. low;
+        members = λ n. ap (member n) (held-stored w cells (well-formed w cells h) b k) ∙ member-stored n b k (held w cells);
+      }
 
   -- `insert_packet_number`
   one-free : (n : ℕ) → member n (held w cells) ≡ false → beforeHeld n 1 (held w cells) ≡ 1
@@ -65,7 +77,7 @@ module _ (w : SlidingWindow) (cells : List ℕ) (h : wellFormed w cells ≡ true
 
   insert-passed : (n : ℕ) → Passed (insertChecks w cells n) →
       let o = one n in
-      Insertion w cells n o × (wellFormed (o .1) (o .2) ≡ true)
+      Insertion w cells n o × Keeps o
   insert-passed n p =
       let low = ltb-false n (expected w) (p .0) in
       let near = leb-false windowSize (n - expected w) (p .1 .0) in
@@ -74,18 +86,18 @@ module _ (w : SlidingWindow) (cells : List ℕ) (h : wellFormed w cells ≡ true
       let room = ltb-false (length cells) (w .count + 1) (p .1 .1 .1 .1 .0) in
       let q = one-free n new in
       let keeps = stored-keeps w cells (well-formed w cells h) n 1 low (rw q (omega arith)) (rw q (omega arith)) (rw q room) in
-      (stores refl new (adds (answers tt) n 1), well-formed-is (grown w 1) (storedCells w cells n 1) (rw q at keeps))
+      (stores refl new (adds (answers tt) n 1 low), well-formed-is (grown w 1) (storedCells w cells n 1) (rw q at keeps))
 
   insert-failed : (n r : ℕ) → Failed (insertChecks w cells n) r → Insertion w cells n (refused w cells r)
   insert-failed n r f = refusal r refl (λ q. not-refused 12 (insertChecks w cells n) refl (rw q at f))
 
-  pub insert-law : (n : ℕ) → let o = insertPacketNumber w cells n in Insertion w cells n o × (wellFormed (o .1) (o .2) ≡ true)
+  pub insert-law : (n : ℕ) → let o = insertPacketNumber w cells n in Insertion w cells n o × Keeps o
   unfolding insertPacketNumber
   insert-law n = rw h (by (checked (refused w cells) (one n) (insertChecks w cells n)))
     where
       by : Checked (insertChecks w cells n) (refused w cells) (one n) →
           let o = checks (insertChecks w cells n) (refused w cells) (one n) in
-          Insertion w cells n o × (wellFormed (o .1) (o .2) ≡ true)
+          Insertion w cells n o × Keeps o
       by (passes p q) = rw q (insert-passed n p)
       by (fails r f q) = rw q (insert-failed n r f, h)
 
@@ -93,18 +105,18 @@ module _ (w : SlidingWindow) (cells : List ℕ) (h : wellFormed w cells ≡ true
   abbrev stopped : ℕ → ℕ → Bool → Outcome Unit
   stopped base k t = (cond t (refuses 7) (answers tt), grown w k, storedCells w cells base k)
 
-  range-stored : (base count : ℕ) (t : Bool) →
+  range-stored : (base count : ℕ) (t : Bool) → expected w ≤ base →
       let k = beforeHeld base count (held w cells) in
       ltb k count ≡ t → RangeInsertion w cells base count (stopped base k t)
-  range-stored base count true q =
+  range-stored base count true low q =
       let k = beforeHeld base count (held w cells) in
       let l = ltb-true k count q in
-      stops k l refl (λ i m. before-free base count i (held w cells) m) (before-held base count (held w cells) l) (adds (refuses 7) base k)
-  range-stored base count false q =
+      stops k l refl (λ i m. before-free base count i (held w cells) m) (before-held base count (held w cells) l) (adds (refuses 7) base k low)
+  range-stored base count false low q =
       let l = ltb-false (beforeHeld base count (held w cells)) count q in
       let m = before-within base count (held w cells) in
       let all : beforeHeld base count (held w cells) ≡ count = omega arith in
-      rw all (stores refl (λ i n. before-free base count i (held w cells) (rw all n)) (adds (answers tt) base count))
+      rw all (stores refl (λ i n. before-free base count i (held w cells) (rw all n)) (adds (answers tt) base count low))
 
   range-passed : (base count : ℕ) → (count ≡ 0 → ⊥) →
       let k = beforeHeld base count (held w cells) in
@@ -120,7 +132,7 @@ module _ (w : SlidingWindow) (cells : List ℕ) (h : wellFormed w cells ≡ true
 
   range-some : (base count : ℕ) → (count ≡ 0 → ⊥) →
       let o = insertBefore w cells base count (beforeHeld base count (held w cells)) in
-      RangeInsertion w cells base count o × (wellFormed (o .1) (o .2) ≡ true)
+      RangeInsertion w cells base count o × Keeps o
   range-some base count any =
       let k = beforeHeld base count (held w cells) in
       by (checked (refused w cells) (stopped base k (ltb k count)) (rangeChecks w cells base count k))
@@ -128,15 +140,15 @@ module _ (w : SlidingWindow) (cells : List ℕ) (h : wellFormed w cells ≡ true
       by : let k = beforeHeld base count (held w cells) in
           Checked (rangeChecks w cells base count k) (refused w cells) (stopped base k (ltb k count)) →
           let o = insertBefore w cells base count k in
-          RangeInsertion w cells base count o × (wellFormed (o .1) (o .2) ≡ true)
+          RangeInsertion w cells base count o × Keeps o
       by (passes p q) =
           let k = beforeHeld base count (held w cells) in
-          rw q (range-stored base count (ltb k count) refl, well-formed-is (grown w k) (storedCells w cells base k) (range-passed base count any p))
+          rw q (range-stored base count (ltb k count) (ltb-false base (expected w) (p .0)) refl, well-formed-is (grown w k) (storedCells w cells base k) (range-passed base count any p))
       by (fails r f q) =
           let cs = rangeChecks w cells base count (beforeHeld base count (held w cells)) in
           rw q (refusal r refl (λ e. not-refused 7 cs refl (rw e at f)) (λ e. not-refused 12 cs refl (rw e at f)), h)
 
-  pub range-law : (base count : ℕ) → let o = insertRange w cells base count in RangeInsertion w cells base count o × (wellFormed (o .1) (o .2) ≡ true)
+  pub range-law : (base count : ℕ) → let o = insertRange w cells base count in RangeInsertion w cells base count o × Keeps o
   unfolding insertRange
   range-law base count = rw h (by (eqb count 0) refl)
     where
@@ -146,14 +158,16 @@ module _ (w : SlidingWindow) (cells : List ℕ) (h : wellFormed w cells ≡ true
 
       by : (t : Bool) → eqb count 0 ≡ t →
           let o : Outcome Unit = cond t (answers tt, w, cells) (insertBefore w cells base count (beforeHeld base count (held w cells))) in
-          RangeInsertion w cells base count o × (wellFormed (o .1) (o .2) ≡ true)
+          RangeInsertion w cells base count o × Keeps o
       by true q =
           let z = eqb-true count 0 q in
-          (stores refl (λ i l. absurd (omega arith)) (refl, λ n. rw z (none-among n (leb base n) refl)), h)
+          let adds-none : Adds w cells (answers tt, w, cells) base count =
+          record { same = refl; above = λ l. absurd (omega arith); members = λ n. rw z (none-among n (leb base n) refl) } in
+          (stores refl (λ i l. absurd (omega arith)) adds-none, h)
       by false q = range-some base count (eqb-false count 0 q)
 
   -- `consume`
-  pub consume-law : let o = consume w cells in Consumption w cells o × (wellFormed (o .1) (o .2) ≡ true)
+  pub consume-law : let o = consume w cells in Consumption w cells o × Keeps o
   unfolding consume
   consume-law = rw h (by (eqb k 0) refl)
     where
@@ -165,7 +179,7 @@ module _ (w : SlidingWindow) (cells : List ℕ) (h : wellFormed w cells ≡ true
 
       by : (t : Bool) → eqb k 0 ≡ t →
           let o : Outcome (Option (ℕ × ℕ)) = cond t (answers none, w, cells) (answers (some (e + k - 1, k)), advanced w k, consumedCells w cells k) in
-          Consumption w cells o × (wellFormed (o .1) (o .2) ≡ true)
+          Consumption w cells o × Keeps o
       by true q =
           let z : e + k ≡ e = let y = eqb-true k 0 q in omega arith in
           (nothing refl (rw z at (run-ends maxNumber e (held w cells) (well-formed w cells h .small))), h)

@@ -108,7 +108,7 @@ module _ (w : SlidingWindow) (cells : List ℕ) (h : WellFormed w cells) where
       let k = runLength e (held w cells) in
       let wider = rises-wider (e + windowSize) (e + k) (e + k + windowSize) (drop k (held w cells)) (omega arith) (rises-dropped (e + windowSize) e (held w cells) (h .near)) in
       record {
-        fits = rw (length-append, length-append, length-drop, length-held) (omega arith);
+        fits = simp (length-append, length-drop, length-held) (omega arith);
         near = rw (held-consumed k) wider;
         small = rw (held-consumed k) (rises-dropped maxNumber e (held w cells) (h .small));
       }

@@ -42,19 +42,18 @@ rising-end cells count i l h k = by (ltb i count) refl
     by false t = let m = ltb-false i count t in rw (held-nil cells count i m k)
 
 -- `is_rising`
-pub rising-five : (cells : List ℕ) (count i : ℕ) → i + 4 < count → count ≤ length cells
-    → rising (drop i (take count cells))
-    ≡ (ltb (getD cells i 0) (getD cells (i + 1) 0) && (ltb (getD cells (i + 1) 0) (getD cells (i + 2) 0)
-    && (ltb (getD cells (i + 2) 0) (getD cells (i + 3) 0) && ltb (getD cells (i + 3) 0) (getD cells (i + 4) 0)))
-    && rising (drop (i + 4) (take count cells)))
-rising-five cells count i h k =
+pub rising-five : (cells : List ℕ) (count i : ℕ) (five : Bool) → i + 4 < count → count ≤ length cells
+    → five ≡ (ltb (getD cells i 0) (getD cells (i + 1) 0) && ltb (getD cells (i + 1) 0) (getD cells (i + 2) 0)
+    && ltb (getD cells (i + 2) 0) (getD cells (i + 3) 0) && ltb (getD cells (i + 3) 0) (getD cells (i + 4) 0))
+    → rising (drop i (take count cells)) ≡ (five && rising (drop (i + 4) (take count cells)))
+rising-five cells count i five h k q =
     let e₂ : i + 1 + 1 ≡ i + 2 = omega arith in
     let e₃ : i + 2 + 1 ≡ i + 3 = omega arith in
     let e₄ : i + 3 + 1 ≡ i + 4 = omega arith in
     let t₂ = rw e₂ at (rising-at cells count (i + 1) (omega arith) k) in
     let t₃ = rw e₃ at (rising-at cells count (i + 2) (omega arith) k) in
     let t₄ = rw e₄ at (rising-at cells count (i + 3) (omega arith) k) in
-    rw (rising-at cells count i (omega arith) k, t₂, t₃, t₄) (simp and-assoc)
+    rw (rising-at cells count i (omega arith) k, t₂, t₃, t₄, q) (simp and-assoc)
 
 -- `well_formed`: rising numbers may all be held where the first and the last may
 between : (w : SlidingWindow) (x y z : ℕ) → x ≤ y → y ≤ z → holdable w x ≡ true → holdable w z ≡ true → holdable w y ≡ true

@@ -144,12 +144,3 @@ place-from n (x ∷ xs) h = by (place-from n xs) (ltb x n) refl h
         → cond t (suc (place n xs)) zero < length (x ∷ xs) → n ≤ getD (x ∷ xs) (cond t (suc (place n xs)) zero) 0
     by ih true t h = ih (le-of-suc-le-suc h)
     by ih false t h = ltb-false x n t
-
-pub place-within : (n : ℕ) (xs : List ℕ) → place n xs ≤ length xs
-unfolding place
-place-within n [] = omega arith
-place-within n (x ∷ xs) = by (place-within n xs) (ltb x n)
-  where
-    by : place n xs ≤ length xs → (t : Bool) → cond t (suc (place n xs)) zero ≤ length (x ∷ xs)
-    by ih true = suc-le-suc ih
-    by ih false = zero-le

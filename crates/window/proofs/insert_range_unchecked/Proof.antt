@@ -1,15 +1,16 @@
 -- `insert_range_unchecked`, by its tests in order; a shift and a fill are what the definition stores.
 -- Assumes nothing.
 use Prim.Native.Nat.{ℕ, _+_, _-_, _≤_, _<_}
-use mathlib.Core.Path.{_≡_, sym, subst}
+use mathlib.Core.Path.{_≡_, sym}
 use mathlib.Core.Bool.{cond}
+use mathlib.Core.List.{[], _∷_}
 use native.Mathlib.Omega.{arith}
 use lib.Dec.{ltb}
 use lib.ListN.{length}
 use borrow.Author.Needs.{needs}
 use borrow.Author.Tests.{lt-ltb, le-ltb, le-leb, lt-leb, eq-eqb, ne-eqb}
-use Rattle.refusal.specs.Said.{answers, refuses}
-use Rattle.window.specs.Window.{maxNumber, held, beforeHeld, grown, storedCells, insertRange}
+use Rattle.refusal.specs.Said.{answers, refuses, checks}
+use Rattle.window.specs.Window.{maxNumber, grown, storedCells, insertRange, refused, tooFew}
 use Rattle.window.proofs.Rises.{well-formed}
 use Rattle.window.proofs.Loops.{stored-is}
 use Rattle.window.proofs.insert_range_unchecked.Statement.{statement}
@@ -28,26 +29,24 @@ fits c = well-formed _ _ (start₄ c .pre) .fits
 ends : (c : tie.Else4) → start₄ c .args .base + start₄ c .args .count ≤ maxNumber
 ends c = omega arith
 
+-- what is left of the definition there, with the numbers found to stand before the first held one
+past : (c : tie.After-first-held) →
+    let a = start₄ (else₄ c) .args in
+    let cells = a .cells .now in
+    let k = c .first-held .result in
+    insertRange (a .w) cells (a .base) (a .count)
+    ≡ checks ((tooFew (a .w) cells k, 10) ∷ []) (refused (a .w) cells) (cond (ltb k (a .count)) (refuses 7) (answers tt), grown (a .w) k, storedCells (a .w) cells (a .base) k)
+unfolding insertRange
+past c =
+    let e = else₄ c in
+    let a = start₄ e .args in
+    simp (start₄ e .pre, ne-eqb _ _ (e .before .before .before .if1 .left), le-ltb _ _ (e .before .before .if2 .left), le-ltb maxNumber (a .base + a .count) (ends e), lt-leb _ _ (e .if4 .left), sym (c .first-held .ensures .0))
+
 short : (len count k : ℕ) → count ≤ len → len - count < k → len < count + k
 short len count k h l = omega arith
 
--- past the test of the cells: what the definition comes to, with the numbers found to stand before the first held one
 room : (c : tie.Else5) → let a = start₄ (else₄ (c .before)) .args in a .w .count + c .before .first-held .result ≤ length (a .cells .now)
 room c = let f = fits (else₄ (c .before)) in omega arith
-
-reached : (c : tie.Else5) →
-    let a = start₄ (else₄ (c .before)) .args in
-    let k = beforeHeld (a .base) (a .count) (held (a .w) (a .cells .now)) in
-    insertRange (a .w) (a .cells .now) (a .base) (a .count)
-    ≡ (cond (ltb k (a .count)) (refuses 7) (answers tt), grown (a .w) k, storedCells (a .w) (a .cells .now) (a .base) k)
-unfolding insertRange
-reached c =
-    let h = c .before in
-    let e = else₄ h in
-    let a = start₄ e .args in
-    let m : a .w .count + beforeHeld (a .base) (a .count) (held (a .w) (a .cells .now)) ≤ length (a .cells .now) =
-    subst (λ (k : ℕ). a .w .count + k ≤ length (a .cells .now)) (h .first-held .ensures .0) (room c) in
-    simp (start₄ e .pre, ne-eqb _ _ (e .before .before .before .if1 .left), le-ltb _ _ (e .before .before .if2 .left), le-ltb maxNumber (a .base + a .count) (ends e), lt-leb _ _ (e .if4 .left), le-ltb (length (a .cells .now)) (a .w .count + beforeHeld (a .base) (a .count) (held (a .w) (a .cells .now))) m)
 
 -- past the stores: the cells left
 left : (c : tie.After-slice-known3) →
@@ -114,12 +113,10 @@ same-length : tie.Need-same-length
 same-length c = search needs
 
 returns-5 : tie.Need-returns-5
-unfolding insertRange
 returns-5 c =
     let h = c .before in
-    let e = else₄ h in
-    let a = start₄ e .args in
-    simp (start₄ e .pre, ne-eqb _ _ (e .before .before .before .if1 .left), le-ltb _ _ (e .before .before .if2 .left), le-ltb maxNumber (a .base + a .count) (ends e), lt-leb _ _ (e .if4 .left), sym (h .first-held .ensures .0), lt-ltb (length (a .cells .now)) (a .w .count + h .first-held .result) (short _ _ _ (fits e) (c .if5 .taken)))
+    let a = start₄ (else₄ h) .args in
+    rw (past h) (simp (lt-ltb (length (a .cells .now)) (a .w .count + h .first-held .result) (short _ _ _ (fits (else₄ h)) (c .if5 .taken))))
 
 shift-up-requires : tie.Need-shift-up-requires
 shift-up-requires c κs = (c .before .before .before .before .find-place .ensures .1, room (c .before))
@@ -140,18 +137,18 @@ same-length-2 c = search needs
 
 returns-6 : tie.Need-returns-6
 returns-6 c =
-    let s = c .before in
-    let k = s .before .before .before .before .before .before .before .before .before .first-held in
-    rw (reached (s .before .before .before .before .before .before .before .before)) (simp (sym (k .ensures .0), lt-ltb _ _ (c .if6 .taken), left s))
+    let r = c .before .before .before .before .before .before .before .before .before in
+    let a = start₄ (else₄ (r .before)) .args in
+    rw (past (r .before)) (simp (le-ltb (length (a .cells .now)) (a .w .count + r .before .first-held .result) (room r), lt-ltb _ _ (c .if6 .taken), left (c .before)))
 
 same-length-3 : tie.Need-same-length-3
 same-length-3 c = search needs
 
 returns-7 : tie.Need-returns-7
 returns-7 c =
-    let s = c .before in
-    let k = s .before .before .before .before .before .before .before .before .before .first-held in
-    rw (reached (s .before .before .before .before .before .before .before .before)) (simp (sym (k .ensures .0), le-ltb _ _ (c .if6 .left), left s))
+    let r = c .before .before .before .before .before .before .before .before .before in
+    let a = start₄ (else₄ (r .before)) .args in
+    rw (past (r .before)) (simp (le-ltb (length (a .cells .now)) (a .w .count + r .before .first-held .result) (room r), le-ltb _ _ (c .if6 .left), left (c .before)))
 
 pub insert-range-unchecked-spec : {M : Type 1} → statement M
 insert-range-unchecked-spec =

@@ -72,8 +72,9 @@ returns : tie.Need-returns Inv-loop μ-loop
 returns c =
     let l = c .before .before .before .before .before .before .before .before in
     let a = l .before .before .args in
-    let turn = rising-five (a .cells .now) (a .count) (l .loop .i) (omega arith) (omega arith) in
-    sym (l .loop .inv .1 ∙ rw (turn, sym (c .before .five-rise .ensures) ∙ not-true _ (c .if1 .taken)))
+    let five = c .before .five-rise in
+    let turn = rising-five (a .cells .now) (a .count) (l .loop .i) (five .result) (omega arith) (omega arith) (five .ensures) in
+    sym (l .loop .inv .1 ∙ rw (turn, not-true (five .result) (c .if1 .taken)))
 
 add-i : tie.Need-add-i Inv-loop μ-loop
 add-i c = search needs
@@ -85,8 +86,9 @@ loop-again : tie.Need-loop-again Inv-loop μ-loop
 loop-again c =
     let l = c .before .before .before .before .before .before .before .before in
     let a = l .before .before .args in
-    let turn = rising-five (a .cells .now) (a .count) (l .loop .i) (omega arith) (omega arith) in
-    (omega arith, l .loop .inv .1 ∙ rw (turn, sym (c .before .five-rise .ensures) ∙ not-false _ (c .if1 .left)))
+    let five = c .before .five-rise in
+    let turn = rising-five (a .cells .now) (a .count) (l .loop .i) (five .result) (omega arith) (omega arith) (five .ensures) in
+    (omega arith, l .loop .inv .1 ∙ rw (turn, not-false (five .result) (c .if1 .left)))
 
 is-rising-from-requires : tie.Need-is-rising-from-requires Inv-loop μ-loop
 is-rising-from-requires c κs = search needs
