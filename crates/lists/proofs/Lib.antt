@@ -2,3 +2,5 @@ pub mod Paste
 pub mod Table
 pub mod Bytes
 pub mod Shift
+pub mod Rotated
+pub mod Take
