@@ -1,0 +1,7 @@
+pub mod Positions
+pub mod Cases
+pub mod Blanked
+pub mod Laws
+pub mod Record
+pub mod Again
+pub mod Push

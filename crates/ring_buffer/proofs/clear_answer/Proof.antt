@@ -1,0 +1,27 @@
+use mathlib.Core.Path.{sym, _∙_}
+use native.Mathlib.Nat.{le-refl}
+use Rattle.ring_buffer.proofs.Cases.{says, clear-malformed, clear-well}
+use borrow.Author.Needs.{needs}
+use Rattle.ring_buffer.proofs.clear_answer.Statement.{statement}
+use Rattle.ring_buffer.proofs.clear_answer.Tie as tie
+
+is-well-formed-requires : tie.Need-is-well-formed-requires
+is-well-formed-requires c κs = search needs
+
+popped-by-requires : tie.Need-popped-by-requires
+popped-by-requires c κs = search needs
+
+returns : tie.Need-returns
+returns c ys e =
+    let start = c .before .before .before .args in
+    let w = sym (c .before .before .is-well-formed .ensures) ∙ c .before .if1 .taken in
+    rw (c .popped-by .ensures w (le-refl _)) (says (sym (clear-well (start .ring) ys (start .capacity) e w)))
+
+returns-2 : tie.Need-returns-2
+returns-2 c ys e =
+    let start = c .before .before .args in
+    let w = sym (c .before .is-well-formed .ensures) ∙ c .if1 .left in
+    says (sym (clear-malformed (start .ring) ys (start .capacity) e w))
+
+pub clear-answer-spec : {M : Type 1} → statement M
+clear-answer-spec = tie.close (tie.spec is-well-formed-requires popped-by-requires returns returns-2)

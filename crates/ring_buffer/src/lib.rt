@@ -1,0 +1,400 @@
+// The ring of queued acks: records in a lent run of cells that is used round and round. Document 01, "The ring"; the Rust's utils/ring_buffer.rs.
+// The state is small and goes by value beside the lent cells, whose number is the capacity. Calls that touch no cell take the capacity alone.
+// Every decision is made by value, in covered functions; the calls over the lent cells only carry it out.
+// Proved: each call says, and leaves behind in state and cells, what its definition in specs/Ring.antt gives. proofs/Laws.antt relates these to the queue's records in order.
+use refusal::Refusal;
+ghost use mathlib.Core.Path.{_≡_};
+ghost use mathlib.Core.Bool.{true};
+ghost use mathlib.Core.List.{List};
+ghost use Prim.Native.Nat.{_+_, _%_, _<_, _≤_};
+ghost use lib.ListN.{length, getD, set};
+ghost use Rattle.ring_buffer.specs.Ring.{blank, fresh, wellFormed, popped, left, lenOf, isEmpty, isFull, pushBack, pushFront, popFront, front as frontOf, clear as clearOf};
+ghost use Rattle.ring_buffer.specs.Says.{countedSays, testedSays, pushedSays, poppedSays, peekedSays, clearedSays, ringPushed, ringPopped, ringCleared};
+ghost use Rattle.ring_buffer.specs.Places.{backPlace, frontPlace, popPlace, clearTurns};
+
+// The Rust's worker/writer.rs, `AckData`; the count has document 01's 32 bits.
+pub struct AckData {
+    pub base_packet_num: u64,
+    pub num_packets_consumed: u32,
+}
+
+// The Rust's utils/ring_buffer.rs, `RingBuffer`, without the buffer, which is lent, and the capacity, which is its length.
+pub struct RingBuffer {
+    pub head: usize,
+    pub tail: usize,
+    pub len: usize,
+}
+
+pub enum Counted {
+    Count(usize),
+    Refused(Refusal),
+}
+
+pub enum Tested {
+    Is(bool),
+    Refused(Refusal),
+}
+
+pub enum Pushed {
+    Stored(RingBuffer),
+    Full(AckData),
+    Refused(Refusal),
+}
+
+pub enum Popped {
+    Record(RingBuffer, AckData),
+    Refused(Refusal),
+}
+
+pub enum Peeked {
+    Record(AckData),
+    Refused(Refusal),
+}
+
+pub enum Cleared {
+    Empty(RingBuffer),
+    Refused(Refusal),
+}
+
+// The i-th position from head on, round the end. The sum never passes the capacity, so it cannot overflow.
+pub fn slot(head: usize, capacity: usize, i: usize) -> usize
+    ensures { λ r. ⌜ (head < capacity → i ≤ capacity → r ≡ (head + i) % capacity) ⌝ }
+{
+    if capacity <= head {
+        return capacity;
+    }
+    let left = capacity - head;
+    if i < left { head + i } else { i - left }
+}
+
+// The test of refusal 12.
+pub fn is_well_formed(ring: RingBuffer, capacity: usize) -> bool
+    ensures { λ r. ⌜ r ≡ wellFormed ring capacity ⌝ }
+{
+    let head = ring.head;
+    let tail = ring.tail;
+    let len = ring.len;
+    if capacity < len {
+        return false;
+    }
+    if capacity == 0 {
+        if head == 0 { tail == 0 } else { false }
+    } else {
+        if head < capacity {
+            tail == slot(head, capacity, len)
+        } else {
+            false
+        }
+    }
+}
+
+// utils/ring_buffer.rs, `RingBuffer::new`. The lent cells are not written: those outside the queue hold anything.
+pub fn new() -> RingBuffer
+    ensures { λ r. ⌜ r ≡ fresh ⌝ }
+{
+    RingBuffer {
+        head: 0,
+        tail: 0,
+        len: 0,
+    }
+}
+
+// utils/ring_buffer.rs, `RingBuffer::len`.
+pub fn len(ring: RingBuffer, capacity: usize) -> Counted
+    ensures { λ r. ⌜ countedSays r ≡ lenOf ring capacity ⌝ }
+{
+    let len = ring.len;
+    if is_well_formed(ring, capacity) {
+        Counted::Count(len)
+    } else {
+        Counted::Refused(Refusal::Malformed)
+    }
+}
+
+// utils/ring_buffer.rs, `RingBuffer::is_empty`.
+pub fn is_empty(ring: RingBuffer, capacity: usize) -> Tested
+    ensures { λ r. ⌜ testedSays r ≡ isEmpty ring capacity ⌝ }
+{
+    let len = ring.len;
+    if is_well_formed(ring, capacity) {
+        Tested::Is(len == 0)
+    } else {
+        Tested::Refused(Refusal::Malformed)
+    }
+}
+
+// utils/ring_buffer.rs, `RingBuffer::is_full`.
+pub fn is_full(ring: RingBuffer, capacity: usize) -> Tested
+    ensures { λ r. ⌜ testedSays r ≡ isFull ring capacity ⌝ }
+{
+    let len = ring.len;
+    if is_well_formed(ring, capacity) {
+        Tested::Is(len == capacity)
+    } else {
+        Tested::Refused(Refusal::Malformed)
+    }
+}
+
+// The ring once the k records in front are popped.
+pub fn popped_by(ring: RingBuffer, capacity: usize, k: usize) -> RingBuffer
+    ensures { λ r. ⌜ (wellFormed ring capacity ≡ true → k ≤ ring .len → r ≡ popped ring capacity k) ⌝ }
+{
+    let head = ring.head;
+    let tail = ring.tail;
+    let len = ring.len;
+    if k == 0 {
+        return ring;
+    }
+    if len < k {
+        return ring;
+    }
+    let next = slot(head, capacity, k);
+    RingBuffer {
+        head: next,
+        tail: tail,
+        len: len - k,
+    }
+}
+
+// The cell that `push_back` fills, or the capacity, which is no cell.
+fn back_place(ring: RingBuffer, capacity: usize) -> usize
+    ensures { λ i. ⌜ i ≡ backPlace ring capacity ⌝ }
+{
+    let tail = ring.tail;
+    let len = ring.len;
+    if len == capacity {
+        return capacity;
+    }
+    if is_well_formed(ring, capacity) {
+        tail
+    } else {
+        capacity
+    }
+}
+
+fn back_answer(ring: RingBuffer, capacity: usize, a: AckData) -> Pushed
+    ensures { λ r. ⌜ ((ys : List AckData) → length ys ≡ capacity → (pushedSays r ≡ pushBack ring ys a .said) × (ringPushed ring r ≡ pushBack ring ys a .ring)) ⌝ }
+{
+    let head = ring.head;
+    let tail = ring.tail;
+    let len = ring.len;
+    if is_well_formed(ring, capacity) {
+        if len == capacity {
+            return Pushed::Full(a);
+        }
+        let next = slot(tail, capacity, 1);
+        let ring = RingBuffer {
+            head: head,
+            tail: next,
+            len: len + 1,
+        };
+        Pushed::Stored(ring)
+    } else {
+        Pushed::Refused(Refusal::Malformed)
+    }
+}
+
+// The cell that `push_front` fills, or the capacity, which is no cell.
+fn front_place(ring: RingBuffer, capacity: usize) -> usize
+    ensures { λ i. ⌜ i ≡ frontPlace ring capacity ⌝ }
+{
+    let head = ring.head;
+    let len = ring.len;
+    if len == capacity {
+        return capacity;
+    }
+    if is_well_formed(ring, capacity) {
+        if head == 0 { capacity - 1 } else { head - 1 }
+    } else {
+        capacity
+    }
+}
+
+fn front_answer(ring: RingBuffer, capacity: usize, a: AckData) -> Pushed
+    ensures { λ r. ⌜ ((ys : List AckData) → length ys ≡ capacity → (pushedSays r ≡ pushFront ring ys a .said) × (ringPushed ring r ≡ pushFront ring ys a .ring)) ⌝ }
+{
+    let tail = ring.tail;
+    let len = ring.len;
+    if is_well_formed(ring, capacity) {
+        if len == capacity {
+            return Pushed::Full(a);
+        }
+        let place = front_place(ring, capacity);
+        let ring = RingBuffer {
+            head: place,
+            tail: tail,
+            len: len + 1,
+        };
+        Pushed::Stored(ring)
+    } else {
+        Pushed::Refused(Refusal::Malformed)
+    }
+}
+
+// The cell that `pop_front` empties and `front` reads, or the capacity, which is no cell.
+fn pop_place(ring: RingBuffer, capacity: usize) -> usize
+    ensures { λ i. ⌜ i ≡ popPlace ring capacity ⌝ }
+{
+    let head = ring.head;
+    let len = ring.len;
+    if len == 0 {
+        return capacity;
+    }
+    if is_well_formed(ring, capacity) {
+        head
+    } else {
+        capacity
+    }
+}
+
+fn pop_answer(ring: RingBuffer, capacity: usize, a: AckData) -> Popped
+    ensures { λ r. ⌜ ((ys : List AckData) → length ys ≡ capacity → a ≡ getD ys (popPlace ring capacity) blank
+        → (poppedSays r ≡ popFront ring ys .said) × (ringPopped ring r ≡ popFront ring ys .ring)) ⌝ }
+{
+    let len = ring.len;
+    if is_well_formed(ring, capacity) {
+        if len == 0 {
+            return Popped::Refused(Refusal::Empty);
+        }
+        let ring = popped_by(ring, capacity, 1);
+        Popped::Record(ring, a)
+    } else {
+        Popped::Refused(Refusal::Malformed)
+    }
+}
+
+fn peek_answer(ring: RingBuffer, capacity: usize, a: AckData) -> Peeked
+    ensures { λ r. ⌜ ((ys : List AckData) → length ys ≡ capacity → a ≡ getD ys (popPlace ring capacity) blank → peekedSays r ≡ frontOf ring ys) ⌝ }
+{
+    let len = ring.len;
+    if is_well_formed(ring, capacity) {
+        if len == 0 {
+            return Peeked::Refused(Refusal::Empty);
+        }
+        Peeked::Record(a)
+    } else {
+        Peeked::Refused(Refusal::Malformed)
+    }
+}
+
+// How many cells `clear` empties.
+fn clear_turns(ring: RingBuffer, capacity: usize) -> usize
+    ensures { λ k. ⌜ k ≡ clearTurns ring capacity ⌝ }
+{
+    let len = ring.len;
+    if is_well_formed(ring, capacity) {
+        len
+    } else {
+        0
+    }
+}
+
+fn clear_answer(ring: RingBuffer, capacity: usize) -> Cleared
+    ensures { λ r. ⌜ ((ys : List AckData) → length ys ≡ capacity → (clearedSays r ≡ clearOf ring ys .said) × (ringCleared ring r ≡ clearOf ring ys .ring)) ⌝ }
+{
+    let len = ring.len;
+    if is_well_formed(ring, capacity) {
+        let ring = popped_by(ring, capacity, len);
+        Cleared::Empty(ring)
+    } else {
+        Cleared::Refused(Refusal::Malformed)
+    }
+}
+
+// The one function that writes a cell: a is stored at i, and what lay there is handed back. Past the end nothing is stored, and the blank record handed back.
+pub fn swap_record(records: &mut [AckData], i: usize, a: AckData) -> AckData
+    ensures { λ r. ⌜ (r ≡ getD (now (records .entry)) i blank) × (now (records .exit) ≡ set (now (records .entry)) i a) ⌝ }
+{
+    if records.len() <= i {
+        return AckData {
+            base_packet_num: 0,
+            num_packets_consumed: 0,
+        };
+    }
+    let old = records[i];
+    records[i] = a;
+    old
+}
+
+// The one function that reads a cell: what lies at i, or the blank record past the end.
+pub fn record_at(records: &[AckData], i: usize) -> AckData
+    ensures { λ r. ⌜ r ≡ getD (now (records .entry)) i blank ⌝ }
+{
+    if records.len() <= i {
+        return AckData {
+            base_packet_num: 0,
+            num_packets_consumed: 0,
+        };
+    }
+    records[i]
+}
+
+// utils/ring_buffer.rs, `RingBuffer::push_back`.
+pub fn push_back(ring: RingBuffer, records: &mut [AckData], a: AckData) -> Pushed
+    ensures { λ r. ⌜ left (pushedSays r) (ringPushed ring r) (now (records .exit)) ≡ pushBack ring (now (records .entry)) a ⌝ }
+{
+    let capacity = records.len();
+    let place = back_place(ring, capacity);
+    swap_record(records, place, a);
+    back_answer(ring, capacity, a)
+}
+
+// utils/ring_buffer.rs, `RingBuffer::push_front`.
+pub fn push_front(ring: RingBuffer, records: &mut [AckData], a: AckData) -> Pushed
+    ensures { λ r. ⌜ left (pushedSays r) (ringPushed ring r) (now (records .exit)) ≡ pushFront ring (now (records .entry)) a ⌝ }
+{
+    let capacity = records.len();
+    let place = front_place(ring, capacity);
+    swap_record(records, place, a);
+    front_answer(ring, capacity, a)
+}
+
+// utils/ring_buffer.rs, `RingBuffer::pop_front`.
+pub fn pop_front(ring: RingBuffer, records: &mut [AckData]) -> Popped
+    ensures { λ r. ⌜ left (poppedSays r) (ringPopped ring r) (now (records .exit)) ≡ popFront ring (now (records .entry)) ⌝ }
+{
+    let capacity = records.len();
+    let place = pop_place(ring, capacity);
+    let old = swap_record(
+        records,
+        place,
+        AckData {
+            base_packet_num: 0,
+            num_packets_consumed: 0,
+        },
+    );
+    pop_answer(ring, capacity, old)
+}
+
+// utils/ring_buffer.rs, `RingBuffer::front`.
+pub fn front(ring: RingBuffer, records: &[AckData]) -> Peeked
+    ensures { λ r. ⌜ peekedSays r ≡ frontOf ring (now (records .entry)) ⌝ }
+{
+    let capacity = records.len();
+    let place = pop_place(ring, capacity);
+    let a = record_at(records, place);
+    peek_answer(ring, capacity, a)
+}
+
+// utils/ring_buffer.rs, `RingBuffer::clear`.
+pub fn clear(ring: RingBuffer, records: &mut [AckData]) -> Cleared
+    ensures { λ r. ⌜ left (clearedSays r) (ringCleared ring r) (now (records .exit)) ≡ clearOf ring (now (records .entry)) ⌝ }
+{
+    let capacity = records.len();
+    let head = ring.head;
+    let turns = clear_turns(ring, capacity);
+    let mut i: usize = 0;
+    while i < turns {
+        let place = slot(head, capacity, i);
+        swap_record(
+            records,
+            place,
+            AckData {
+                base_packet_num: 0,
+                num_packets_consumed: 0,
+            },
+        );
+        i = i + 1;
+    }
+    clear_answer(ring, capacity)
+}
