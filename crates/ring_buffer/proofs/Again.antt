@@ -2,9 +2,10 @@
 --     LentAgain        what the holder keeps while the slice is lent again under the name γ₁: the lender's part at κ′, and its own borrow at κ, open, with both halves of its ghost variable
 --     lends-again      own (the `&κ mut [T]` ((b, o), γ, ys)) ∗ [κ]_q  ⊢ ⇛ ∃ γ₁. own (the `&κ′ mut [T]` ((b, o), γ₁, ys)) ∗ LentAgain γ₁
 --     comes-back       given `Room` and that zs is as long as ys:  [†κ′] ∗ LentAgain γ₁ ∗ finally γ₁ zs  ⊢ ⇛ (own (the `&κ mut [T]` ((b, o), γ, zs)) ∗ [κ]_q)
+--     LentShared, lends-shared, back-shared   the same where it is lent as a `&κ′ [T]`, which leaves it as it was
 --     lends-at, back-at   the same at a count c that the list is known to have: the machine value of a slice whose list changes, turn by turn, stays written as it was on entry
 -- Assumes `Given`.
-use mathlib.Core.Path.{_≡_, sym, ap, subst}
+use mathlib.Core.Path.{_≡_, refl, sym, ap, subst}
 use Prim.Native.Nat.{ℕ}
 use mathlib.Core.List.{List, [], _∷_}
 use lib.ListN.{length}
@@ -16,14 +17,16 @@ use base.Logic.{ent, sep, ex}
 use base.Fml.{Lft, GName, Share, Fml, fsep, flft, fdead, fobs, fauth, flent, fobor}
 use prog.Wp.{Heap}
 use ghost.Atoms.{Atoms, sem}
-use types.Kit.{Given, ‵, _⊛_, some, later, _$_, _∵_, !, qed, move, use1, use3, drop, split, pick, fsplit, fjoin, frame, await, updating, now as at-once, show, done}
+use types.Kit.{Given, ‵, _⊛_, some, later, _$_, _∵_, !, qed, move, use1, use3, drop, split, pick, fsplit, fjoin, feqI, frame, await, updating, now as at-once, show, done}
+use types.Share.{arr-parts}
 use types.SemTy.{cells, Arr}
+use types.Tokens.{lent-back}
 use denote.RattleType.{RattleType}
 use denote.Shadow.{pureL, pureI}
-use denote.Memory.{mem}
+use denote.Memory.{mem, shares}
 use denote.Ref.{RefT}
-use denote.Slice.{sliceVal, MutSlice, heres, Room, finally, at-slice, codedHoleys}
-use denote.Lend.{Held, lends-slice, slice-back}
+use denote.Slice.{sliceVal, MutSlice, ShrSlice, heres, Room, finally, at-slice, codedHoleys}
+use denote.Lend.{Held, lends-slice, slice-back, lends-shr-slice}
 use denote.Index.{row, whole-out, whole-in, opens-slice, closes-slice}
 
 module _ (R : RattleType) (κ κ′ : Lft) (q : Share) (γ : GName) (b o : ℕ) where
@@ -32,6 +35,9 @@ module _ (R : RattleType) (κ κ′ : Lft) (q : Share) (γ : GName) (b o : ℕ) 
 
   abbrev pub LentAgain : GName → List (R .Denot) → Fml
   LentAgain γ₁ ys = fsep (flent κ′ (Held R (length ys) b o γ₁)) (fsep (fobor κ q (Held R (length ys) b o γ)) (fsep (fobs γ (codedHoleys R .code (heres R ys))) (fauth γ (codedHoleys R .code (heres R ys)))))
+
+  abbrev pub LentShared : List (R .Denot) → Fml
+  LentShared ys = fsep (flent κ′ (arr-parts (shares R) (length ys) .part fullShare ys b o)) (fsep (fobor κ q (Held R (length ys) b o γ)) (fsep (fobs γ (codedHoleys R .code (heres R ys))) (fauth γ (codedHoleys R .code (heres R ys)))))
 
   module _ {M : Type 1} (𝓤 : URA M) (H : Heap 𝓤) (A : Atoms 𝓤) (W : Given 𝓤 H A) (ℓ ℓ′ : Lifetime) (ys : List (R .Denot)) where
     abbrev vals : List Val
@@ -54,6 +60,21 @@ module _ (R : RattleType) (κ κ′ : Lft) (q : Share) (γ : GName) (b o : ℕ) 
         use3 W (later (‵ (Arr (mem R) (length ys) .lies zs b o))) (slice-back 𝓤 H A W R κ′ γ₁ zs (length ys) b o) $ await ! tt $ fsplit ! $ drop ! $ use1 W (‵ (row R fullShare zs b o)) (whole-out 𝓤 H A W R zs b o) $
         move ! (1 ∷ []) $ fsplit ! $ move ! (1 ∷ []) $ fsplit ! $ move ! (3 ∷ 2 ∷ 0 ∷ 1 ∷ []) $ closes-slice ! tt R ys zs e b o $ at-once ! $
         fjoin ! $ pureI ! (at-slice R (at-list γ zs) vals) (tt, (tt, tt)) (ap (λ (m : ℕ). sliceVal (b, o) m ∷ []) (sym e), subst (Room R) (sym e) room) $ fjoin ! $ done !
+
+    pub lends-shared : ent 𝓤 (sep 𝓤 (sem 𝓤 H A (MutSlice ℓ κ R .own (at-list γ ys) vals)) (A .lft κ q))
+        (H .⇛ (ex 𝓤 (λ (γ₁ : GName). sep 𝓤 (sem 𝓤 H A (ShrSlice ℓ′ κ′ R .own (at-list γ₁ ys) vals)) (sem 𝓤 H A (LentShared ys)))))
+    lends-shared =
+        qed W (‵ (MutSlice ℓ κ R .own (at-list γ ys) vals) ∷ ‵ (flft κ q) ∷ []) ∵ updating ! $ fsplit ! $ pureL ! (at-slice R (at-list γ ys) vals) (λ p. fsplit ! $ opens-slice ! tt R ys b o $
+        feqI ! ℕ (length ys) (length ys) refl $ fjoin ! $
+        use1 W (later (some (λ (γ₁ : GName). ‵ (ShrSlice ℓ′ κ′ R .own (at-list γ₁ ys) vals) ⊛ ‵ (flent κ′ (arr-parts (shares R) (length ys) .part fullShare ys b o))))) (lends-shr-slice 𝓤 H A W R ℓ′ κ′ fullShare ys b o (p .1)) $ await ! tt $ pick ! (λ γ₁. split ! $
+        at-once ! $ show ! (λ (γ′ : GName). sep 𝓤 (sem 𝓤 H A (ShrSlice ℓ′ κ′ R .own (at-list γ′ ys) vals)) (sem 𝓤 H A (LentShared ys))) γ₁ $ frame ! $
+        move ! (2 ∷ 3 ∷ []) $ fjoin ! $ move ! (2 ∷ 0 ∷ []) $ fjoin ! $ move ! (1 ∷ 0 ∷ []) $ fjoin ! $ done !))
+
+    pub back-shared : Room R (length ys) → ent 𝓤 (sep 𝓤 (A .dead κ′) (sem 𝓤 H A (LentShared ys))) (H .⇛ (sep 𝓤 (sem 𝓤 H A (MutSlice ℓ κ R .own (at-list γ ys) vals)) (A .lft κ q)))
+    back-shared room =
+        qed W (‵ (fdead κ′) ∷ ‵ (LentShared ys) ∷ []) ∵ updating ! $ move ! (1 ∷ []) $ fsplit ! $ move ! (2 ∷ 0 ∷ []) $ lent-back ! tt $ fsplit ! $ drop ! $
+        move ! (1 ∷ []) $ fsplit ! $ move ! (1 ∷ []) $ fsplit ! $ move ! (3 ∷ 2 ∷ 0 ∷ 1 ∷ []) $ closes-slice ! tt R ys ys refl b o $ at-once ! $
+        fjoin ! $ pureI ! (at-slice R (at-list γ ys) vals) (tt, (tt, tt)) (refl, room) $ fjoin ! $ done !
 
 module _ (R : RattleType) (κ κ′ : Lft) (q : Share) (γ : GName) (b o : ℕ) {M : Type 1} (𝓤 : URA M) (H : Heap 𝓤) (A : Atoms 𝓤) (W : Given 𝓤 H A) (ℓ ℓ′ : Lifetime) (ys : List (R .Denot)) (c : ℕ) (len : length ys ≡ c) where
   pub lends-at : ent 𝓤 (sep 𝓤 (sem 𝓤 H A (MutSlice ℓ κ R .own (at-list R κ κ′ q γ b o γ ys) (sliceVal (b, o) c ∷ []))) (A .lft κ q))

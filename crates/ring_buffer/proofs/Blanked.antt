@@ -5,7 +5,7 @@ use native.Mathlib.Nat.{add-zero, mod-eq-of-lt}
 use native.Mathlib.Numerals.{add-one}
 use native.Mathlib.Omega.{arith}
 use mathlib.Core.Path.{_≡_, refl, sym, ap, _∙_}
-use mathlib.Core.List.{List, [], _∷_, _++_}
+use mathlib.Core.List.{List, _∷_, _++_}
 use lib.ListN.{length, getD, set, drop, replicate, length-set, length-replicate}
 use lib.Seq.{drop-cons, set-at, getD-drop, getD-append-add}
 use Rattle.lists.proofs.Rotated.{rotated, length-rotated, rotated-set, getD-rotated}

@@ -11,67 +11,67 @@ use lib.Seq.{set-out}
 use lib.Dec.{eqb}
 use borrow.Author.Tests.{eqb-true, eqb-false, eq-eqb, ne-eqb}
 use Rattle.refusal.specs.Said.{Said, answers, refuses}
-use Rattle.ring_buffer.specs.Ring.{blank, wellFormed, before, grownBack, grownFront, popped, blanked, Left, left, pushBack, pushFront, popFront, front, clear}
+use Rattle.ring_buffer.specs.Ring.{blank, wellFormed, before, grownBack, grownFront, popped, blanked, Outcome, leaves, pushBack, pushFront, popFront, front, clear}
 use Rattle.ring_buffer.specs.Places.{backPlace, frontPlace, popPlace, clearTurns}
 use Rattle.ring_buffer.proofs.Positions.{room, head-in}
 use Rattle.ring_buffer.specs.declared.AckData.{AckData}
 use Rattle.ring_buffer.specs.declared.RingBuffer.{RingBuffer}
 
 -- what two outcomes that are one say, and their ring
-pub says : {A : Type 0} {x y : Left A} → x ≡ y → (x .said ≡ y .said) × (x .ring ≡ y .ring)
-says {A} p = (ap (λ (r : Left A). r .said) p, ap (λ (r : Left A). r .ring) p)
+pub says : {A : Type 0} {x y : Outcome A} → x ≡ y → (x .said ≡ y .said) × (x .ring ≡ y .ring)
+says {A} p = (ap (λ (r : Outcome A). r .said) p, ap (λ (r : Outcome A). r .ring) p)
 
--- an outcome is known by its three parts
-pub outcome : {A : Type 0} {s : Said A} {g : RingBuffer} {ys : List AckData} {x : Left A} → s ≡ x .said → g ≡ x .ring → ys ≡ x .cells → left s g ys ≡ x
-outcome p q r = rw (p, q, r) refl
+-- an same-outcome is known by its three parts
+pub same-outcome : {A : Type 0} {s : Said A} {g : RingBuffer} {ys : List AckData} {x : Outcome A} → s ≡ x .said → g ≡ x .ring → ys ≡ x .cells → leaves s g ys ≡ x
+same-outcome p q r = rw (p, q, r) refl
 
 module _ (g : RingBuffer) (ys : List AckData) (c : ℕ) (e : length ys ≡ c) where
   module _ (w : wellFormed g c ≡ false) where
-    pub back-malformed : (a : AckData) → pushBack g ys a ≡ left (refuses 12) g ys
+    pub back-malformed : (a : AckData) → pushBack g ys a ≡ leaves (refuses 12) g ys
     back-malformed a = simp (e, w)
 
-    pub front-malformed : (a : AckData) → pushFront g ys a ≡ left (refuses 12) g ys
+    pub front-malformed : (a : AckData) → pushFront g ys a ≡ leaves (refuses 12) g ys
     front-malformed a = simp (e, w)
 
-    pub pop-malformed : popFront g ys ≡ left (refuses 12) g ys
+    pub pop-malformed : popFront g ys ≡ leaves (refuses 12) g ys
     pop-malformed = simp (e, w)
 
     pub peek-malformed : front g ys ≡ refuses 12
     peek-malformed = simp (e, w)
 
-    pub clear-malformed : clear g ys ≡ left (refuses 12) g ys
+    pub clear-malformed : clear g ys ≡ leaves (refuses 12) g ys
     clear-malformed = simp (e, w)
 
   module _ (w : wellFormed g c ≡ true) where
     module _ (full : g .len ≡ c) (a : AckData) where
-      pub back-full : pushBack g ys a ≡ left (answers (some a)) g ys
+      pub back-full : pushBack g ys a ≡ leaves (answers (some a)) g ys
       back-full = simp (e, w, eq-eqb (g .len) c full)
 
-      pub front-full : pushFront g ys a ≡ left (answers (some a)) g ys
+      pub front-full : pushFront g ys a ≡ leaves (answers (some a)) g ys
       front-full = simp (e, w, eq-eqb (g .len) c full)
 
     module _ (free : g .len ≡ c → ⊥) (a : AckData) where
-      pub back-stored : pushBack g ys a ≡ left (answers none) (grownBack g c) (set ys (g .tail) a)
+      pub back-stored : pushBack g ys a ≡ leaves (answers none) (grownBack g c) (set ys (g .tail) a)
       back-stored = simp (e, w, ne-eqb (g .len) c free)
 
-      pub front-stored : pushFront g ys a ≡ left (answers none) (grownFront g c) (set ys (before c (g .head)) a)
+      pub front-stored : pushFront g ys a ≡ leaves (answers none) (grownFront g c) (set ys (before c (g .head)) a)
       front-stored = simp (e, w, ne-eqb (g .len) c free)
 
     module _ (none : g .len ≡ 0) where
-      pub pop-empty : popFront g ys ≡ left (refuses 8) g ys
+      pub pop-empty : popFront g ys ≡ leaves (refuses 8) g ys
       pop-empty = simp (e, w, eq-eqb (g .len) 0 none)
 
       pub peek-empty : front g ys ≡ refuses 8
       peek-empty = simp (e, w, eq-eqb (g .len) 0 none)
 
     module _ (held : g .len ≡ 0 → ⊥) where
-      pub pop-held : popFront g ys ≡ left (answers (getD ys (g .head) blank)) (popped g c 1) (set ys (g .head) blank)
+      pub pop-held : popFront g ys ≡ leaves (answers (getD ys (g .head) blank)) (popped g c 1) (set ys (g .head) blank)
       pop-held = simp (e, w, ne-eqb (g .len) 0 held)
 
       pub peek-held : front g ys ≡ answers (getD ys (g .head) blank)
       peek-held = simp (e, w, ne-eqb (g .len) 0 held)
 
-    pub clear-well : clear g ys ≡ left (answers tt) (popped g c (g .len)) (blanked (g .head) (g .len) ys)
+    pub clear-well : clear g ys ≡ leaves (answers tt) (popped g c (g .len)) (blanked (g .head) (g .len) ys)
     clear-well = simp (e, w)
 
 -- the cell that each call touches
@@ -95,33 +95,33 @@ module _ (g : RingBuffer) (c : ℕ) where
     back-cells a = by (wellFormed g c) refl (eqb (g .len) c) refl
       where
         by : (b : Bool) → wellFormed g c ≡ b → (f : Bool) → eqb (g .len) c ≡ f → set ys (backPlace g c) a ≡ pushBack g ys a .cells
-        by false w f q = none-set _ a (simp w) ∙ ap (λ (r : Left (Option AckData)). r .cells) (sym (back-malformed g ys c e w a))
-        by true w true q = none-set _ a (simp (w, q)) ∙ ap (λ (r : Left (Option AckData)). r .cells) (sym (back-full g ys c e w (eqb-true (g .len) c q) a))
-        by true w false q = ap (λ (i : ℕ). set ys i a) (back-place-is w (eqb-false (g .len) c q)) ∙ ap (λ (r : Left (Option AckData)). r .cells) (sym (back-stored g ys c e w (eqb-false (g .len) c q) a))
+        by false w f q = none-set _ a (simp w) ∙ ap (λ (r : Outcome (Option AckData)). r .cells) (sym (back-malformed g ys c e w a))
+        by true w true q = none-set _ a (simp (w, q)) ∙ ap (λ (r : Outcome (Option AckData)). r .cells) (sym (back-full g ys c e w (eqb-true (g .len) c q) a))
+        by true w false q = ap (λ (i : ℕ). set ys i a) (back-place-is w (eqb-false (g .len) c q)) ∙ ap (λ (r : Outcome (Option AckData)). r .cells) (sym (back-stored g ys c e w (eqb-false (g .len) c q) a))
 
     pub front-cells : (a : AckData) → set ys (frontPlace g c) a ≡ pushFront g ys a .cells
     front-cells a = by (wellFormed g c) refl (eqb (g .len) c) refl
       where
         by : (b : Bool) → wellFormed g c ≡ b → (f : Bool) → eqb (g .len) c ≡ f → set ys (frontPlace g c) a ≡ pushFront g ys a .cells
-        by false w f q = none-set _ a (simp w) ∙ ap (λ (r : Left (Option AckData)). r .cells) (sym (front-malformed g ys c e w a))
-        by true w true q = none-set _ a (simp (w, q)) ∙ ap (λ (r : Left (Option AckData)). r .cells) (sym (front-full g ys c e w (eqb-true (g .len) c q) a))
-        by true w false q = ap (λ (i : ℕ). set ys i a) (front-place-is w (eqb-false (g .len) c q)) ∙ ap (λ (r : Left (Option AckData)). r .cells) (sym (front-stored g ys c e w (eqb-false (g .len) c q) a))
+        by false w f q = none-set _ a (simp w) ∙ ap (λ (r : Outcome (Option AckData)). r .cells) (sym (front-malformed g ys c e w a))
+        by true w true q = none-set _ a (simp (w, q)) ∙ ap (λ (r : Outcome (Option AckData)). r .cells) (sym (front-full g ys c e w (eqb-true (g .len) c q) a))
+        by true w false q = ap (λ (i : ℕ). set ys i a) (front-place-is w (eqb-false (g .len) c q)) ∙ ap (λ (r : Outcome (Option AckData)). r .cells) (sym (front-stored g ys c e w (eqb-false (g .len) c q) a))
 
     pub pop-cells : set ys (popPlace g c) blank ≡ popFront g ys .cells
     pop-cells = by (wellFormed g c) refl (eqb (g .len) 0) refl
       where
         by : (b : Bool) → wellFormed g c ≡ b → (f : Bool) → eqb (g .len) 0 ≡ f → set ys (popPlace g c) blank ≡ popFront g ys .cells
-        by false w f q = none-set _ blank (simp w) ∙ ap (λ (r : Left AckData). r .cells) (sym (pop-malformed g ys c e w))
-        by true w true q = none-set _ blank (simp (w, q)) ∙ ap (λ (r : Left AckData). r .cells) (sym (pop-empty g ys c e w (eqb-true (g .len) 0 q)))
-        by true w false q = ap (λ (i : ℕ). set ys i blank) (pop-place-is w (eqb-false (g .len) 0 q)) ∙ ap (λ (r : Left AckData). r .cells) (sym (pop-held g ys c e w (eqb-false (g .len) 0 q)))
+        by false w f q = none-set _ blank (simp w) ∙ ap (λ (r : Outcome AckData). r .cells) (sym (pop-malformed g ys c e w))
+        by true w true q = none-set _ blank (simp (w, q)) ∙ ap (λ (r : Outcome AckData). r .cells) (sym (pop-empty g ys c e w (eqb-true (g .len) 0 q)))
+        by true w false q = ap (λ (i : ℕ). set ys i blank) (pop-place-is w (eqb-false (g .len) 0 q)) ∙ ap (λ (r : Outcome AckData). r .cells) (sym (pop-held g ys c e w (eqb-false (g .len) 0 q)))
 
     pub clear-cells : blanked (g .head) (clearTurns g c) ys ≡ clear g ys .cells
     unfolding blanked
     clear-cells = by (wellFormed g c) refl
       where
         by : (b : Bool) → wellFormed g c ≡ b → blanked (g .head) (cond b (g .len) 0) ys ≡ clear g ys .cells
-        by true w = ap (λ (r : Left Unit). r .cells) (sym (clear-well g ys c e w))
-        by false w = ap (λ (r : Left Unit). r .cells) (sym (clear-malformed g ys c e w))
+        by true w = ap (λ (r : Outcome Unit). r .cells) (sym (clear-well g ys c e w))
+        by false w = ap (λ (r : Outcome Unit). r .cells) (sym (clear-malformed g ys c e w))
 
 -- where `clear` has a turn i left, the head is a cell, and i at most the number of cells
 pub turns-in : (g : RingBuffer) (c i : ℕ) → i < clearTurns g c → (g .head < c) × (i ≤ c)

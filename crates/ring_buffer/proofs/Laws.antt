@@ -2,24 +2,24 @@
 -- Popping k records in general, `popped` and `blanked`, is what ack packing does.
 -- Assumes nothing.
 use Prim.Native.Nat.{ℕ, zero, suc, _+_, _-_, _%_, _<_, _≤_}
-use native.Mathlib.Nat.{add-zero, add-assoc, mod-lt, mod-self, mod-eq-of-lt, mod-add-mod, sub-zero}
+use native.Mathlib.Nat.{add-zero, add-assoc, mod-lt, mod-self, mod-eq-of-lt, mod-add-mod}
 use native.Mathlib.Numerals.{add-one}
 use native.Mathlib.Omega.{arith}
 use mathlib.Core.Path.{_≡_, refl, sym, ap, _∙_}
 use mathlib.Core.Bool.{Bool, true, false}
 use mathlib.Core.List.{List, [], _∷_, _++_}
-use lib.ListN.{length, getD, set, take, drop, replicate, length-set, length-drop, length-append, length-replicate}
-use lib.Seq.{length-take-le, drop-length, drop-cons, take-append-le, take-suc-set, getD-take, drop-at, drop-drop}
+use lib.ListN.{length, getD, set, take, drop, replicate, length-set, length-drop, length-replicate}
+use lib.Seq.{length-take-le, take-suc, drop-length, drop-cons, take-append-le, take-suc-set, getD-take, drop-at}
 use lib.Dec.{eqb, eqb·suc-zero}
-use borrow.Author.Tests.{eqb-true, eqb-false, eq-eqb, ne-eqb, ltb-true, ltb-false}
+use borrow.Author.Tests.{eqb-true, eqb-false}
 use Rattle.lists.proofs.Rotated.{rotated, length-rotated, rotated-on, rotated-set, getD-rotated}
 use Rattle.lists.proofs.Take.{drop-take}
 use Rattle.refusal.specs.Said.{answers}
-use Rattle.ring_buffer.specs.Ring.{blank, wellFormed, contents, fresh, before, grownBack, grownFront, popped, blanked, Left, left, isEmpty, isFull, pushBack, pushFront, popFront, front, clear}
+use Rattle.ring_buffer.specs.Ring.{blank, wellFormed, contents, fresh, before, grownBack, grownFront, popped, blanked, Outcome, leaves, isEmpty, isFull, pushBack, pushFront, popFront, front, clear}
 use Rattle.ring_buffer.specs.declared.AckData.{AckData}
 use Rattle.ring_buffer.specs.declared.RingBuffer.{RingBuffer}
 use Rattle.ring_buffer.proofs.Positions.{Placed, nowhere, somewhere, room, placed, head-in, well, popped-none}
-use Rattle.ring_buffer.proofs.Cases.{back-malformed, back-full, back-stored, front-full, front-stored, pop-empty, pop-held, peek-held, clear-well}
+use Rattle.ring_buffer.proofs.Cases.{back-full, back-stored, front-full, front-stored, pop-empty, pop-held, peek-held, clear-well}
 use Rattle.ring_buffer.proofs.Blanked.{length-blanked, blanked-none, blanked-one, rotated-blanked, getD-blanked}
 
 -- a new ring is well formed over any run of cells, and its queue empty
@@ -47,15 +47,20 @@ set-front {A} (x ∷ l) n a h = ap (λ (r : List A). a ∷ r) (sym (take-append-
 same-ring : {h i t l m : ℕ} → h ≡ i → l ≡ m → _≡_ {A = RingBuffer} (record { head = h; tail = t; len = l }) (record { head = i; tail = t; len = m })
 same-ring p q = rw (p, q) refl
 
--- what an outcome's ring and cells are, and that they fit
-abbrev pub queue : {A : Type 0} → Left A → List AckData
+-- what an same-outcome's ring and cells are, and that they fit
+abbrev pub queue : {A : Type 0} → Outcome A → List AckData
 queue x = contents (x .ring) (x .cells)
 
-abbrev pub fit : {A : Type 0} → Left A → Bool
+abbrev pub fit : {A : Type 0} → Outcome A → Bool
 fit x = wellFormed (x .ring) (length (x .cells))
 
-abbrev pub Keeps : {A : Type 0} → Left A → Type 0
+abbrev pub Keeps : {A : Type 0} → Outcome A → Type 0
 Keeps x = fit x ≡ true
+
+-- the records that k pops take, each from its cell as the pops before it left the cells
+unfoldable pub taken : RingBuffer → List AckData → ℕ → List AckData
+taken g ys zero = []
+taken g ys (suc k) = taken g ys k ++ (getD (blanked (g .head) k ys) ((g .head + k) % length ys) blank ∷ [])
 
 module _ (g : RingBuffer) (ys : List AckData) (w : wellFormed g (length ys) ≡ true) where
   abbrev c : ℕ
@@ -153,18 +158,25 @@ module _ (g : RingBuffer) (ys : List AckData) (w : wellFormed g (length ys) ≡ 
             ∙ ap (λ (l : List AckData). take (g .len - k) (l ++ take k (replicate k blank ++ drop k r))) (drop-at (replicate k blank) (drop k r) k (length-replicate k blank))
             ∙ take-append-le (g .len - k) (drop k r) _ rest ∙ sym (drop-take k (g .len) r)
 
-  -- the next record to pop is still in its cell, and popping it is one pop more: so popping one at a time gives `take k (contents g ys)` and comes to `popped` and `blanked`
+  -- the next record to pop is still in its cell, and popping it is one pop more: so k pops, one after the other, come to `popped` and `blanked`
   module _ (k : ℕ) (left-over : k < g .len) where
     pub next-record : getD (blanked (g .head) k ys) ((g .head + k) % c) blank ≡ getD (contents g ys) k blank
     next-record = getD-blanked (g .head) ys (head-in g c w (omega (arith, fits))) k (omega (arith, fits)) ∙ sym (getD-take (g .len) (rotated (g .head) ys) k blank left-over)
 
-    pub pop-again : popFront (popped g c k) (blanked (g .head) k ys) ≡ left (answers (getD (contents g ys) k blank)) (popped g c (suc k)) (blanked (g .head) (suc k) ys)
+    pub pop-again : popFront (popped g c k) (blanked (g .head) k ys) ≡ leaves (answers (getD (contents g ys) k blank)) (popped g c (suc k)) (blanked (g .head) (suc k) ys)
     unfolding blanked
     pop-again =
         let next : popped (popped g c k) c 1 ≡ popped g c (suc k) = same-ring (mod-add-mod (g .head + k) c 1 ∙ ap (λ (m : ℕ). m % c) {y = g .head + suc k} (omega arith)) (omega arith) in
         pop-held (popped g c k) (blanked (g .head) k ys) c (length-blanked (g .head) k ys) (popped-keeps k (omega arith)) (λ e. omega arith)
-        ∙ ap (λ (a : AckData). left (answers a) (popped (popped g c k) c 1) (blanked (g .head) (suc k) ys)) next-record
-        ∙ ap (λ (r : RingBuffer). left (answers (getD (contents g ys) k blank)) r (blanked (g .head) (suc k) ys)) next
+        ∙ ap (λ (a : AckData). leaves (answers a) (popped (popped g c k) c 1) (blanked (g .head) (suc k) ys)) next-record
+        ∙ ap (λ (r : RingBuffer). leaves (answers (getD (contents g ys) k blank)) r (blanked (g .head) (suc k) ys)) next
+
+  -- and they take the k first records, in order
+  pub taken-are : (k : ℕ) → k ≤ g .len → taken g ys k ≡ take k (contents g ys)
+  unfolding taken
+  taken-are zero few = refl
+  taken-are (suc k) few =
+      rw (taken-are k (omega arith), next-record k few) (sym (take-suc (contents g ys) k blank (rw length-contents few)))
 
   -- the calls: what each leaves in the queue, and that the ring stays well formed
   module _ (a : AckData) where
@@ -197,7 +209,7 @@ module _ (g : RingBuffer) (ys : List AckData) (w : wellFormed g (length ys) ≡ 
       drop-cons (contents g ys) 0 blank (rw length-contents some) ∙ ap (λ (x : AckData). x ∷ drop 1 (contents g ys)) first ∙ ap (λ (l : List AckData). getD ys (g .head) blank ∷ l) (sym rest)
 
   pub popFront-says : (g .len ≡ 0 → ⊥) → popFront g ys .said ≡ answers (getD (contents g ys) 0 blank)
-  popFront-says held = ap (λ (x : Left AckData). x .said) (pop-held g ys c refl w held) ∙ ap answers (sym (ap (λ (l : List AckData). getD l 0 blank) (popFront-queue held)))
+  popFront-says held = ap (λ (x : Outcome AckData). x .said) (pop-held g ys c refl w held) ∙ ap answers (sym (ap (λ (l : List AckData). getD l 0 blank) (popFront-queue held)))
 
   pub front-says : (g .len ≡ 0 → ⊥) → front g ys ≡ answers (getD (contents g ys) 0 blank)
   front-says held = peek-held g ys c refl w held ∙ ap answers (sym (ap (λ (l : List AckData). getD l 0 blank) (popFront-queue held)))
@@ -217,7 +229,7 @@ module _ (g : RingBuffer) (ys : List AckData) (w : wellFormed g (length ys) ≡ 
 
   -- popping until the queue is empty, the head comes to the tail
   pub clear-ends : clear g ys .ring ≡ record { head = g .tail; tail = g .tail; len = 0 }
-  clear-ends = ap (λ (x : Left Unit). x .ring) (clear-well g ys c refl w) ∙ by (placed g c w)
+  clear-ends = ap (λ (x : Outcome Unit). x .ring) (clear-well g ys c refl w) ∙ by (placed g c w)
     where
       by : Placed g c → popped g c (g .len) ≡ record { head = g .tail; tail = g .tail; len = 0 }
       by (nowhere z h t) = same-ring (let none : g .len ≡ 0 = omega (arith, fits) in rw (z, h, none, t) refl) (omega arith)

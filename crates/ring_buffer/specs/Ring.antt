@@ -43,13 +43,13 @@ blanked head zero ys = ys
 blanked head (suc k) ys = set (blanked head k ys) ((head + k) % length ys) blank
 
 -- what a call says, and the state and the cells that it leaves
-pub record Left (A : Type 0) : Type 0 where
+pub record Outcome (A : Type 0) : Type 0 where
   pub said : Said A
   pub ring : RingBuffer
   pub cells : List AckData
 
-abbrev pub left : {A : Type 0} → Said A → RingBuffer → List AckData → Left A
-left s g ys = record { said = s; ring = g; cells = ys }
+abbrev pub leaves : {A : Type 0} → Said A → RingBuffer → List AckData → Outcome A
+leaves s g ys = record { said = s; ring = g; cells = ys }
 
 -- "12 comes first everywhere"
 abbrev pub lenOf : RingBuffer → ℕ → Said ℕ
@@ -62,23 +62,23 @@ abbrev pub isFull : RingBuffer → ℕ → Said Bool
 isFull g c = checks ((not (wellFormed g c), 12) ∷ []) refuses (answers (eqb (g .len) c))
 
 -- "push at either end"; "A push on a full ring gives the record back"
-abbrev pub pushBack : RingBuffer → List AckData → AckData → Left (Option AckData)
-pushBack g ys a = checks ((not (wellFormed g (length ys)), 12) ∷ []) (λ n. left (refuses n) g ys)
-    (cond (eqb (g .len) (length ys)) (left (answers (some a)) g ys) (left (answers none) (grownBack g (length ys)) (set ys (g .tail) a)))
+abbrev pub pushBack : RingBuffer → List AckData → AckData → Outcome (Option AckData)
+pushBack g ys a = checks ((not (wellFormed g (length ys)), 12) ∷ []) (λ n. leaves (refuses n) g ys)
+    (cond (eqb (g .len) (length ys)) (leaves (answers (some a)) g ys) (leaves (answers none) (grownBack g (length ys)) (set ys (g .tail) a)))
 
-abbrev pub pushFront : RingBuffer → List AckData → AckData → Left (Option AckData)
-pushFront g ys a = checks ((not (wellFormed g (length ys)), 12) ∷ []) (λ n. left (refuses n) g ys)
-    (cond (eqb (g .len) (length ys)) (left (answers (some a)) g ys) (left (answers none) (grownFront g (length ys)) (set ys (before (length ys) (g .head)) a)))
+abbrev pub pushFront : RingBuffer → List AckData → AckData → Outcome (Option AckData)
+pushFront g ys a = checks ((not (wellFormed g (length ys)), 12) ∷ []) (λ n. leaves (refuses n) g ys)
+    (cond (eqb (g .len) (length ys)) (leaves (answers (some a)) g ys) (leaves (answers none) (grownFront g (length ys)) (set ys (before (length ys) (g .head)) a)))
 
 -- "pop at the front"; "A pop of an empty ring is refusal 8"
-abbrev pub popFront : RingBuffer → List AckData → Left AckData
-popFront g ys = checks ((not (wellFormed g (length ys)), 12) ∷ (eqb (g .len) 0, 8) ∷ []) (λ n. left (refuses n) g ys)
-    (left (answers (getD ys (g .head) blank)) (popped g (length ys) 1) (set ys (g .head) blank))
+abbrev pub popFront : RingBuffer → List AckData → Outcome AckData
+popFront g ys = checks ((not (wellFormed g (length ys)), 12) ∷ (eqb (g .len) 0, 8) ∷ []) (λ n. leaves (refuses n) g ys)
+    (leaves (answers (getD ys (g .head) blank)) (popped g (length ys) 1) (set ys (g .head) blank))
 
 abbrev pub front : RingBuffer → List AckData → Said AckData
 front g ys = checks ((not (wellFormed g (length ys)), 12) ∷ (eqb (g .len) 0, 8) ∷ []) refuses (answers (getD ys (g .head) blank))
 
 -- the Rust pops until the queue is empty
-abbrev pub clear : RingBuffer → List AckData → Left Unit
-clear g ys = checks ((not (wellFormed g (length ys)), 12) ∷ []) (λ n. left (refuses n) g ys)
-    (left (answers tt) (popped g (length ys) (g .len)) (blanked (g .head) (g .len) ys))
+abbrev pub clear : RingBuffer → List AckData → Outcome Unit
+clear g ys = checks ((not (wellFormed g (length ys)), 12) ∷ []) (λ n. leaves (refuses n) g ys)
+    (leaves (answers tt) (popped g (length ys) (g .len)) (blanked (g .head) (g .len) ys))

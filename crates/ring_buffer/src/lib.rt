@@ -8,7 +8,7 @@ ghost use mathlib.Core.Bool.{true};
 ghost use mathlib.Core.List.{List};
 ghost use Prim.Native.Nat.{_+_, _%_, _<_, _≤_};
 ghost use lib.ListN.{length, getD, set};
-ghost use Rattle.ring_buffer.specs.Ring.{blank, fresh, wellFormed, popped, left, lenOf, isEmpty, isFull, pushBack, pushFront, popFront, front as frontOf, clear as clearOf};
+ghost use Rattle.ring_buffer.specs.Ring.{blank, fresh, wellFormed, popped, leaves, lenOf, isEmpty, isFull, pushBack, pushFront, popFront, front as frontOf, clear as clearOf};
 ghost use Rattle.ring_buffer.specs.Says.{countedSays, testedSays, pushedSays, poppedSays, peekedSays, clearedSays, ringPushed, ringPopped, ringCleared};
 ghost use Rattle.ring_buffer.specs.Places.{backPlace, frontPlace, popPlace, clearTurns};
 
@@ -172,6 +172,7 @@ fn back_place(ring: RingBuffer, capacity: usize) -> usize
     }
 }
 
+// What `push_back` answers on a run of so many cells.
 fn back_answer(ring: RingBuffer, capacity: usize, a: AckData) -> Pushed
     ensures { λ r. ⌜ ((ys : List AckData) → length ys ≡ capacity → (pushedSays r ≡ pushBack ring ys a .said) × (ringPushed ring r ≡ pushBack ring ys a .ring)) ⌝ }
 {
@@ -210,6 +211,7 @@ fn front_place(ring: RingBuffer, capacity: usize) -> usize
     }
 }
 
+// What `push_front` answers on a run of so many cells.
 fn front_answer(ring: RingBuffer, capacity: usize, a: AckData) -> Pushed
     ensures { λ r. ⌜ ((ys : List AckData) → length ys ≡ capacity → (pushedSays r ≡ pushFront ring ys a .said) × (ringPushed ring r ≡ pushFront ring ys a .ring)) ⌝ }
 {
@@ -247,6 +249,7 @@ fn pop_place(ring: RingBuffer, capacity: usize) -> usize
     }
 }
 
+// What `pop_front` answers where a lay in its cell.
 fn pop_answer(ring: RingBuffer, capacity: usize, a: AckData) -> Popped
     ensures { λ r. ⌜ ((ys : List AckData) → length ys ≡ capacity → a ≡ getD ys (popPlace ring capacity) blank
         → (poppedSays r ≡ popFront ring ys .said) × (ringPopped ring r ≡ popFront ring ys .ring)) ⌝ }
@@ -263,6 +266,7 @@ fn pop_answer(ring: RingBuffer, capacity: usize, a: AckData) -> Popped
     }
 }
 
+// What `front` answers where a lies in its cell.
 fn peek_answer(ring: RingBuffer, capacity: usize, a: AckData) -> Peeked
     ensures { λ r. ⌜ ((ys : List AckData) → length ys ≡ capacity → a ≡ getD ys (popPlace ring capacity) blank → peekedSays r ≡ frontOf ring ys) ⌝ }
 {
@@ -289,6 +293,7 @@ fn clear_turns(ring: RingBuffer, capacity: usize) -> usize
     }
 }
 
+// What `clear` answers on a run of so many cells.
 fn clear_answer(ring: RingBuffer, capacity: usize) -> Cleared
     ensures { λ r. ⌜ ((ys : List AckData) → length ys ≡ capacity → (clearedSays r ≡ clearOf ring ys .said) × (ringCleared ring r ≡ clearOf ring ys .ring)) ⌝ }
 {
@@ -331,7 +336,7 @@ pub fn record_at(records: &[AckData], i: usize) -> AckData
 
 // utils/ring_buffer.rs, `RingBuffer::push_back`.
 pub fn push_back(ring: RingBuffer, records: &mut [AckData], a: AckData) -> Pushed
-    ensures { λ r. ⌜ left (pushedSays r) (ringPushed ring r) (now (records .exit)) ≡ pushBack ring (now (records .entry)) a ⌝ }
+    ensures { λ r. ⌜ leaves (pushedSays r) (ringPushed ring r) (now (records .exit)) ≡ pushBack ring (now (records .entry)) a ⌝ }
 {
     let capacity = records.len();
     let place = back_place(ring, capacity);
@@ -341,7 +346,7 @@ pub fn push_back(ring: RingBuffer, records: &mut [AckData], a: AckData) -> Pushe
 
 // utils/ring_buffer.rs, `RingBuffer::push_front`.
 pub fn push_front(ring: RingBuffer, records: &mut [AckData], a: AckData) -> Pushed
-    ensures { λ r. ⌜ left (pushedSays r) (ringPushed ring r) (now (records .exit)) ≡ pushFront ring (now (records .entry)) a ⌝ }
+    ensures { λ r. ⌜ leaves (pushedSays r) (ringPushed ring r) (now (records .exit)) ≡ pushFront ring (now (records .entry)) a ⌝ }
 {
     let capacity = records.len();
     let place = front_place(ring, capacity);
@@ -351,7 +356,7 @@ pub fn push_front(ring: RingBuffer, records: &mut [AckData], a: AckData) -> Push
 
 // utils/ring_buffer.rs, `RingBuffer::pop_front`.
 pub fn pop_front(ring: RingBuffer, records: &mut [AckData]) -> Popped
-    ensures { λ r. ⌜ left (poppedSays r) (ringPopped ring r) (now (records .exit)) ≡ popFront ring (now (records .entry)) ⌝ }
+    ensures { λ r. ⌜ leaves (poppedSays r) (ringPopped ring r) (now (records .exit)) ≡ popFront ring (now (records .entry)) ⌝ }
 {
     let capacity = records.len();
     let place = pop_place(ring, capacity);
@@ -378,7 +383,7 @@ pub fn front(ring: RingBuffer, records: &[AckData]) -> Peeked
 
 // utils/ring_buffer.rs, `RingBuffer::clear`.
 pub fn clear(ring: RingBuffer, records: &mut [AckData]) -> Cleared
-    ensures { λ r. ⌜ left (clearedSays r) (ringCleared ring r) (now (records .exit)) ≡ clearOf ring (now (records .entry)) ⌝ }
+    ensures { λ r. ⌜ leaves (clearedSays r) (ringCleared ring r) (now (records .exit)) ≡ clearOf ring (now (records .entry)) ⌝ }
 {
     let capacity = records.len();
     let head = ring.head;

@@ -1,3 +1,4 @@
+-- `ring_buffer::back_answer` meets its contract. Assumes nothing.
 use mathlib.Core.Path.{sym, _∙_}
 use native.Mathlib.Omega.{arith}
 use Rattle.ring_buffer.proofs.Positions.{room, tail-in}

@@ -1,6 +1,6 @@
 -- `ring_buffer::clear` meets its contract: a walk of its MIR, by hand, with a loop, whose turn calls the covered `slot` and lends the slice again to `swap_record`. Assumes nothing.
-use mathlib.Core.Path.{_≡_, refl, sym, ap, _∙_, subst}
-use Prim.Native.Nat.{ℕ, zero, suc, _+_, _-_, _%_, _<_, _≤_, _^_, zero-le}
+use mathlib.Core.Path.{_≡_, refl, ap, _∙_}
+use Prim.Native.Nat.{ℕ, _+_, _-_, _%_, _<_, _≤_, _^_, zero-le}
 use native.Mathlib.Nat.{le-antisymm, lt-of-le-of-lt}
 use native.Mathlib.Numerals.{add-one-le, add-one-dec}
 use mathlib.Core.WellFounded.{WellFounded, InvImage·wf}
@@ -54,7 +54,7 @@ use Rattle.ring_buffer.specs.declared.RingBuffer.{RingBuffer}
 use Rattle.ring_buffer.specs.declared.Cleared.{Cleared}
 use Rattle.ring_buffer.proofs.Again.{LentAgain, lends-at, back-at}
 use Rattle.ring_buffer.proofs.Blanked.{length-blanked, blanked-none, blanked-next}
-use Rattle.ring_buffer.proofs.Cases.{outcome, clear-cells, turns-in, turns-fit}
+use Rattle.ring_buffer.proofs.Cases.{same-outcome, clear-cells, turns-in, turns-fit}
 use Rattle.ring_buffer.proofs.Record.{R, thin, mach, ringv, blank-is, wt}
 use Rattle.ring_buffer.proofs.AckData as T
 use Rattle.ring_buffer.proofs.AckData.Laws as T′
@@ -161,7 +161,7 @@ module _ {M : Type 1} (𝓤 : URA M) (H : Heap 𝓤) (A : Atoms 𝓤) (W : Given
   exits : (r : Cleared) (v : Val) → Told g n r → ent 𝓤 (⋆ 𝓤 H A (‵ (flft κ q) ∷ ‵ (MutSlice (named 0) κ R .own (x γ (bl k)) (s ∷ [])) ∷ ‵ (X.the-row .own r (v ∷ [])) ∷ [])) (Post v)
   exits r v t =
       qed W (‵ (flft κ q) ∷ ‵ (MutSlice (named 0) κ R .own (x γ (bl k)) (s ∷ [])) ∷ ‵ (X.the-row .own r (v ∷ [])) ∷ []) ∵
-      suffices ! _ (ends-at 𝓤 H A self.ended stayed (self.clauses 𝓤 H A mem run) W (((κ, tt), (q, tt), tt, args, vals), tt) v r (tt, (bl k, tt)) (tt, (length-blanked (g .head) k ys, tt))) $ says ! (outcome (t ys refl .0) (t ys refl .1) (clear-cells g n ys refl)) $
+      suffices ! _ (ends-at 𝓤 H A self.ended stayed (self.clauses 𝓤 H A mem run) W (((κ, tt), (q, tt), tt, args, vals), tt) v r (tt, (bl k, tt)) (tt, (length-blanked (g .head) k ys, tt))) $ says ! (same-outcome (t ys refl .0) (t ys refl .1) (clear-cells g n ys refl)) $
       nothing ! $ move ! (1 ∷ 0 ∷ []) $ join ! $ frame ! $
       nothing ! $ move ! (1 ∷ 0 ∷ []) $ fjoin ! $ owned ! G.the-row (Is G.the-row) (LL.makes G.the-type G′.the-plain 𝓤 H A) g _ g-is $ fjoin ! $ done !
 

@@ -1,3 +1,4 @@
+-- `ring_buffer::clear_answer` meets its contract. Assumes nothing.
 use mathlib.Core.Path.{sym, _∙_}
 use native.Mathlib.Nat.{le-refl}
 use Rattle.ring_buffer.proofs.Cases.{says, clear-malformed, clear-well}

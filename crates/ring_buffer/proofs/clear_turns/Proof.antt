@@ -1,3 +1,4 @@
+-- `ring_buffer::clear_turns` meets its contract. Assumes nothing.
 use mathlib.Core.Path.{sym, _∙_}
 use borrow.Author.Needs.{needs}
 use Rattle.ring_buffer.proofs.clear_turns.Statement.{statement}

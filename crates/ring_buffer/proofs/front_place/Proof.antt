@@ -1,3 +1,4 @@
+-- `ring_buffer::front_place` meets its contract. Assumes nothing.
 use mathlib.Core.Path.{sym, _∙_}
 use native.Mathlib.Omega.{arith}
 use mathlib.Core.Bool.{and-false}

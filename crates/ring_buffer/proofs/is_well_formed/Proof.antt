@@ -1,6 +1,4 @@
-use mathlib.Core.Path.{sym, ap}
-use mathlib.Core.Bool.{Bool}
-use lib.Dec.{eqb}
+-- `ring_buffer::is_well_formed` meets its contract. Assumes nothing.
 use borrow.Author.Tests.{lt-leb, le-leb, lt-ltb, le-ltb, eq-eqb, ne-eqb}
 use borrow.Author.Needs.{needs}
 use Rattle.ring_buffer.proofs.is_well_formed.Statement.{statement}

@@ -1,3 +1,4 @@
+-- `ring_buffer::pop_answer` meets its contract. Assumes nothing.
 use Prim.Native.Nat.{ℕ}
 use lib.ListN.{getD}
 use mathlib.Core.Path.{sym, _∙_, ap}

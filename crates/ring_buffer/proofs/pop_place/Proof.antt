@@ -1,3 +1,4 @@
+-- `ring_buffer::pop_place` meets its contract. Assumes nothing.
 use mathlib.Core.Path.{sym, _∙_}
 use mathlib.Core.Bool.{and-false}
 use borrow.Author.Tests.{eq-eqb, ne-eqb}

@@ -1,3 +1,4 @@
+-- `ring_buffer::popped_by` meets its contract. Assumes nothing.
 use mathlib.Core.Path.{sym}
 use native.Mathlib.Omega.{arith}
 use borrow.Author.Needs.{needs}

@@ -1,7 +1,8 @@
+-- `ring_buffer::slot` meets its contract. Assumes nothing.
 use Prim.Native.Nat.{_+_}
 use native.Mathlib.Nat.{mod-eq-of-lt}
 use native.Mathlib.Omega.{arith}
-use mathlib.Core.Path.{sym, _∙_}
+use mathlib.Core.Path.{sym}
 use borrow.Author.Needs.{needs}
 use Rattle.lists.proofs.Rotated.{wraps}
 use Rattle.ring_buffer.proofs.slot.Statement.{statement}
