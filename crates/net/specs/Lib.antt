@@ -1,0 +1,2 @@
+pub mod Hello
+pub mod Control
