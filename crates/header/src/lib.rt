@@ -1,7 +1,7 @@
 // The header of 20 bytes (core/header.rs), and the table of the sixteen packet types.
 // Proved: every call says and leaves what its definition in specs/Header.antt does, and the table keeps its rule at each row.
 ghost use mathlib.Core.Path.{_≡_};
-ghost use Prim.Native.Nat.{ℕ, _+_, _<_, _≤_};
+ghost use Prim.Native.Nat.{ℕ, _+_, _%_, _<_, _≤_};
 ghost use mathlib.Core.List.{List};
 ghost use lib.ListN.{length};
 ghost use lib.Seq.{paste};
@@ -60,12 +60,12 @@ const TYPES: [TypeRow; 16] = [
     UNKNOWN,
 ];
 
-// The table's row of a type number: the one place that says which types are known and which have a payload.
-pub fn type_row(n: usize) -> TypeRow
-    requires { ⌜ n < 16 ⌝ }
-    ensures { λ r. ⌜ r ≡ rowOf n ⌝ }
+// The table's row of the type in a header's first byte: the one place that says which types are known and which have a payload.
+pub fn type_row(first: u8) -> TypeRow
+    ensures { λ r. ⌜ r ≡ rowOf (first % 16) ⌝ }
 {
-    TYPES[n]
+    let number = (first % 16) as usize;
+    TYPES[number]
 }
 
 // core/header.rs, `PacketType as u8`.
@@ -291,7 +291,7 @@ impl BluefinHeader {
     {
         let first = bytes[at];
         let number = first % 16;
-        let row = type_row(number as usize);
+        let row = type_row(first);
         if row.known {
             HeaderRead::Header(BluefinHeader {
                 version: first / 16,

@@ -91,8 +91,7 @@ fn look_at(datagram: &[u8], at: usize) -> Look
     if left < 20 {
         return Look::Fault(Refusal::Tail);
     }
-    let number = datagram[at] % 16;
-    let row = header::type_row(number as usize);
+    let row = header::type_row(datagram[at]);
     if !row.known {
         return Look::Fault(Refusal::UnknownType);
     }

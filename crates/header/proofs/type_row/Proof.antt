@@ -1,5 +1,5 @@
 -- `header::type_row` meets its contract: each of the sixteen rows is what the rule says. Assumes nothing.
-use Prim.Native.Nat.{ℕ}
+use Prim.Native.Nat.{ℕ, _%_}
 use mathlib.Core.Path.{_≡_, refl}
 use mathlib.Core.List.{List, [], _∷_}
 use mathlib.Core.Bool.{true, false}
@@ -9,6 +9,9 @@ use Rattle.header.specs.declared.TypeRow.{TypeRow}
 use Rattle.header.specs.Types.{rowOf}
 use Rattle.header.proofs.type_row.Statement.{statement}
 use Rattle.header.proofs.type_row.Tie as tie
+
+cast-number : tie.Need-cast-number
+cast-number c = search needs
 
 mul-result : tie.Need-mul-result
 mul-result c = search needs
@@ -35,7 +38,7 @@ kept : Every Kept 0 rows
 kept = (refl, (refl, (refl, (refl, (refl, (refl, (refl, (refl, (refl, (refl, (refl, (refl, (refl, (refl, (refl, (refl, tt))))))))))))))))
 
 returns : tie.Need-returns
-returns c = every-at Kept unknown rows kept (c .before .args .n) (search needs)
+returns c = every-at Kept unknown rows kept (c .before .args .first % 16) (search needs)
 
 pub type-row-spec : {M : Type 1} → statement M
-type-row-spec = tie.close (tie.spec mul-result array-copy-out-result returns)
+type-row-spec = tie.close (tie.spec cast-number mul-result array-copy-out-result returns)

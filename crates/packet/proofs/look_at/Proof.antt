@@ -32,11 +32,8 @@ returns c = at-end _ _ (c .if1 .taken)
 returns-2 : tie.Need-returns-2
 returns-2 c = at-tail _ _ (c .before .if1 .left) (c .if2 .taken)
 
-shared-slice-read-number : tie.Need-shared-slice-read-number
-shared-slice-read-number c = search needs
-
-cast-type-row : tie.Need-cast-type-row
-cast-type-row c = search needs
+shared-slice-read-type-row : tie.Need-shared-slice-read-type-row
+shared-slice-read-type-row c = search needs
 
 type-row-requires : tie.Need-type-row-requires
 type-row-requires c κs = search needs
@@ -95,8 +92,7 @@ look-at-spec =
     sub-left
     returns
     returns-2
-    shared-slice-read-number
-    cast-type-row
+    shared-slice-read-type-row
     type-row-requires
     returns-3
     returns-4

@@ -13,9 +13,6 @@ use Rattle.header.proofs.BluefinHeader.deserialise_at_unchecked.Tie as 
 shared-slice-read-first : tie.Need-shared-slice-read-first
 shared-slice-read-first c = search needs
 
-cast-type-row : tie.Need-cast-type-row
-cast-type-row c = search needs
-
 type-row-requires : tie.Need-type-row-requires
 type-row-requires c κs = search needs
 
@@ -80,7 +77,6 @@ deserialise-at-unchecked-spec =
     tie.close
     (tie.spec
     shared-slice-read-first
-    cast-type-row
     type-row-requires
     type-of-requires
     add-get2
