@@ -1,3 +1,5 @@
 pub mod Alone
 pub mod Step
 pub mod Walk
+pub mod Index
+pub mod Trip

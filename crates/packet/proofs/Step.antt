@@ -1,10 +1,12 @@
--- One step of the walk, by what stands at the cursor: what `look_at` has to show at each of its returns.
+-- One step of the walk, by what stands at the cursor: what `look_at` has to show at each of its returns, and that one of them holds at every cursor.
+-- Nothing else opens `payloadMissing`.
 -- Assumes nothing.
-use Prim.Native.Nat.{ℕ, suc, _+_, _-_, _<_, _≤_}
+use Prim.Native.Nat.{ℕ, _+_, _-_, _<_, _≤_}
 use mathlib.Core.Path.{_≡_, refl}
-use mathlib.Core.Bool.{true, false, _||_}
+use mathlib.Core.Bool.{Bool, true, false}
 use mathlib.Core.List.{List}
 use native.Mathlib.Omega.{arith}
+use native.Mathlib.Decide.{decLe}
 use lib.ListN.{length}
 use lib.Dec.{ltb, leb}
 use borrow.Author.Tests.{lt-ltb, le-ltb, le-leb, lt-leb}
@@ -22,6 +24,10 @@ no-packet-end e q = let z : _≡_ {A = ℕ} 0 1 = cc in omega arith
 
 no-packet-fault : {r : Look} {n : Refusal} {len : ℕ} → r ≡ Fault n → r ≡ Packet len → ⊥
 no-packet-fault e q = let z : _≡_ {A = ℕ} 0 1 = cc in omega arith
+
+-- what stands at a cursor, found out
+abbrev pub Seen : List ℕ → ℕ → Type 0
+Seen s at = (r : Look) × Looked s at r
 
 module _ (s : List ℕ) (at : ℕ) where
   pub at-end : length s - at ≡ 0 → Looked s at End
@@ -78,3 +84,31 @@ module _ (s : List ℕ) (at : ℕ) where
               step = λ steps. rw (not-end, not-tail, known, payload, m);
               within = λ len q. (let z : fieldAt s at ≡ len = cc in omega arith);
             }
+
+        seen-data : Seen s at
+        seen-data =
+            elim (decLe (length s - at) 20) [
+              | yes few ↦ (Fault PayloadMissing, at-last-header few)
+              | no some ↦ elim (decLe (length s - at) (19 + fieldAt s at)) [
+                | yes few ↦ (Fault PayloadMissing, at-short-payload (omega arith) few)
+                | no enough ↦ (Packet (fieldAt s at), at-whole-payload (omega arith) (omega arith))
+              ]
+            ]
+
+      seen-known : (t : Bool) → rowOf (typeAt s at) .«has_payload» ≡ t → Seen s at
+      seen-known true e = seen-data e
+      seen-known false e = (Packet 0, at-bare e)
+
+    seen-header : (t : Bool) → rowOf (typeAt s at) .known ≡ t → Seen s at
+    seen-header true e = seen-known e (rowOf (typeAt s at) .«has_payload») refl
+    seen-header false e = (Fault UnknownType, at-unknown e)
+
+  pub seen : Seen s at
+  seen =
+      elim (decLe (length s) at) [
+        | yes none ↦ (End, at-end (omega arith))
+        | no some ↦ elim (decLe 20 (length s - at)) [
+          | yes more ↦ seen-header more (rowOf (typeAt s at) .known) refl
+          | no few ↦ (Fault Tail, at-tail (λ e. some (omega arith)) (omega arith))
+        ]
+      ]

@@ -1,10 +1,10 @@
 -- The packets of a datagram: document 01, "From a datagram to packets"; `from_bytes` and `from_bytes_into` of core/packet.rs.
 use Prim.Native.Nat.{ℕ, zero, suc, _+_, _-_, _/_, min}
-use mathlib.Core.Bool.{Bool, true, false, not, cond, _&&_, _||_}
-use mathlib.Core.List.{List, [], _∷_, map}
+use mathlib.Core.Bool.{Bool, not, cond, _&&_, _||_}
+use mathlib.Core.List.{List, [], _∷_}
 use lib.ListN.{length, take, drop}
 use lib.Seq.{sets}
-use lib.Dec.{ltb, leb, eqb}
+use lib.Dec.{ltb, leb}
 use Rattle.refusal.specs.Refusal.{numberOf}
 use Rattle.refusal.specs.Said.{Said, answers, refuses, refusesAt, checks}
 use Rattle.parts.specs.BigEndian.{numberAt}

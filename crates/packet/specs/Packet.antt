@@ -1,6 +1,5 @@
 -- One packet: a header beside a payload, written and read alone. Document 01, "The header, last leaf"; core/packet.rs.
 use Prim.Native.Nat.{ℕ, _+_}
-use mathlib.Core.Bool.{Bool}
 use mathlib.Core.List.{List, [], _∷_, _++_}
 use lib.ListN.{length}
 use lib.Seq.{paste}
@@ -18,6 +17,11 @@ pub record Packet : Type 0 where
 
 abbrev pub packetBytes : Packet → List ℕ
 packetBytes p = headerBytes (p .header) ++ p .payload
+
+-- packets end to end: the bytes of the datagram that they make
+unfoldable pub joined : List Packet → List ℕ
+joined [] = []
+joined (p ∷ ps) = packetBytes p ++ joined ps
 
 abbrev pub packetWrittenSays : PacketWritten → Said ℕ
 packetWrittenSays (packetWritten.Bytes n) = answers n
