@@ -1,70 +1,80 @@
 -- What an index lists once a datagram is parsed: each cell lies within the datagram, and the cells read back as the packets that the walk met.
+-- How many cells are enough for every datagram.
 -- Assumes nothing.
-use Prim.Native.Nat.{ℕ, zero, suc, _+_, _-_, _*_, _<_, _≤_}
-use mathlib.Core.Path.{_≡_, refl, sym, ap, _∙_}
+use Prim.Native.Nat.{ℕ, zero, suc, _+_, _-_, _*_, _/_, _<_, _≤_}
+use mathlib.Core.Path.{_≡_, refl, sym, ap, _∙_, subst}
 use mathlib.Core.Bool.{Bool, true, false, cond}
 use mathlib.Core.List.{List, [], _∷_, _++_, map}
 use native.Mathlib.Omega.{arith}
 use native.Mathlib.Decide.{decLe}
-use lib.ListN.{length, take, drop, length-take}
-use lib.Seq.{sets, sets-eq, take-all}
+use lib.ListN.{length, getD, take, drop, length-take}
+use lib.Seq.{sets-eq, length-sets, take-all}
 use lib.Dec.{ltb}
-use borrow.Author.Tests.{ltb-false}
+use borrow.Author.Tests.{ltb-false, le-ltb}
 use Rattle.refusal.specs.Said.{Said, answers, refuses, refusesAt}
-use Rattle.lists.proofs.Table.{Every}
-use Rattle.packet.specs.Packet as packet
-use Rattle.packet.specs.declared.Look.{Look}
-use Rattle.packet.specs.declared.Look.the-variants.{Packet, Fault, End}
-use Rattle.packet.specs.Datagram.{walkAt, readingLimit, packetsOf, cellsIn, flat, counted, parsed, cellsWritten, parsesInto, parses, packetAt, listed}
-use Rattle.packet.specs.Step.{Looked}
-use Rattle.packet.proofs.Step.{seen}
-use Rattle.packet.proofs.Walk.{walk-end, walk-fault, walk-packet, begin-long, begin-short, begin-walk}
+use Rattle.lists.proofs.Table.{Every, every-at}
+use Rattle.packet.specs.Packet.{Packet}
+use Rattle.packet.specs.Datagram.{readingLimit, packetsOf, cellsIn, flat, counted, parsed, cellsWritten, parsesInto, parses, packetAt, listed}
+use Rattle.packet.proofs.Walk.{walk-all, begin-long}
 
 -- header and payload of a cell lie within the datagram
 abbrev pub Within : List ℕ → ℕ × ℕ → Type 0
 Within s c = c .0 + 20 + c .1 ≤ length s
 
 module _ (s : List ℕ) where
-  within-walk : (steps at i : ℕ) → length s - at < steps → Every (λ k. Within s) i (walkAt s at .cells)
-  within-walk zero at i h = absurd (omega arith)
-  within-walk (suc steps) at i h = by (seen s at .0) (seen s at .1) (λ len w. within-walk steps (at + 20 + len) (suc i) (omega arith))
-    where
-      by : (r : Look) → Looked s at r → ((len : ℕ) → at + 20 + len ≤ length s → Every (λ k. Within s) (suc i) (walkAt s (at + 20 + len) .cells))
-          → Every (λ k. Within s) i (walkAt s at .cells)
-      by (Packet len) l ih = rw (walk-packet s at l) (l .within len refl, ih len (l .within len refl))
-      by (Fault r) l ih = rw (walk-fault s at l) tt
-      by End l ih = rw (walk-end s at l) tt
-
   pub within : Every (λ k. Within s) 0 (packetsOf s .cells)
-  within =
+  within = walk-all s (λ at w. (i : ℕ) → Every (λ k. Within s) i (w .cells)) (λ at e i. tt) (λ at len w h each i. (h, each (suc i))) 0
+
+  -- every packet has 20 bytes or more
+  few-cells : length (packetsOf s .cells) ≤ readingLimit / 20
+  few-cells =
+      let fits : 20 * length (packetsOf s .cells) ≤ length s - 0 =
+      walk-all s (λ at w. 20 * length (w .cells) ≤ length s - at) (λ at e. omega arith) (λ at len w h few. omega arith) in
       elim (decLe (length s) readingLimit) [
-        | no long ↦ rw (begin-long s (omega arith)) tt
-        | yes fits ↦ elim (decLe 20 (length s)) [
-          | no short ↦ rw (begin-short s fits (omega arith)) tt
-          | yes more ↦ rw (begin-walk s fits more) (within-walk (suc (length s - 0)) 0 0 (omega arith))
-        ]
+        | yes short ↦ omega arith
+        | no long ↦ rw (begin-long s (omega arith)) (omega arith)
       ]
+
+  -- so that an index for the longest datagram has room for every one: there is no refusal 10
+  pub room-enough : (room : ℕ) → readingLimit / 20 ≤ room → parsed s room ≡ counted (length (packetsOf s .cells)) (packetsOf s .ending)
+  unfolding parsed
+  room-enough room h = rw (le-ltb room (length (packetsOf s .cells)) (omega (arith, few-cells)))
 
 length-flat : (cs : List (ℕ × ℕ)) → length (flat cs) ≡ 2 * length cs
 unfolding flat
 length-flat [] = refl
 length-flat (c ∷ cs) = rw (length-flat cs) (omega arith)
 
+-- the numbers of a cell stand where the code looks for them
+flat-at : (cs : List (ℕ × ℕ)) (rest : List ℕ) (i : ℕ) → i < length cs
+    → _≡_ {A = ℕ × ℕ} (getD (flat cs ++ rest) (2 * i) 0, getD (flat cs ++ rest) (2 * i + 1) 0) (getD cs i (0, 0))
+unfolding flat
+flat-at [] rest i h = absurd (omega arith)
+flat-at (c ∷ cs) rest zero h = refl
+flat-at (c ∷ cs) rest (suc i) h =
+    let second : 2 * suc i + 1 ≡ suc (suc (2 * i + 1)) = omega arith in
+    let first : 2 * suc i ≡ suc (suc (2 * i)) = omega arith in
+    rw (second, first) (flat-at cs rest i (omega arith))
+
 module _ (s : List ℕ) where
   listed-flat : (cs : List (ℕ × ℕ)) (rest : List ℕ) → listed s (flat cs ++ rest) (length cs) ≡ map (packetAt s) cs
   unfolding flat listed
   listed-flat [] rest = refl
-  listed-flat (c ∷ cs) rest = ap (λ (ps : List packet.Packet). packetAt s c ∷ ps) (listed-flat cs rest)
+  listed-flat (c ∷ cs) rest = ap (λ (ps : List Packet). packetAt s c ∷ ps) (listed-flat cs rest)
 
   module _ (index : List ℕ) where
+    -- the cells from the index's start, and behind them what it held
+    written : parsesInto s index .1
+        ≡ flat (take (cellsIn index) (packetsOf s .cells)) ++ drop (0 + length (flat (take (cellsIn index) (packetsOf s .cells)))) index
+    written =
+        let cs = take (cellsIn index) (packetsOf s .cells) in
+        sets-eq (flat cs) index 0 (omega (arith, length-flat cs, length-take (cellsIn index) (packetsOf s .cells)))
+
     -- the cells that are written read back as the packets met, as far as there are cells
     pub listed-into : listed s (parsesInto s index .1) (cellsWritten s index) ≡ map (packetAt s) (take (cellsIn index) (packetsOf s .cells))
     listed-into =
         let cs = take (cellsIn index) (packetsOf s .cells) in
-        let count : length cs ≡ cellsWritten s index = length-take (cellsIn index) (packetsOf s .cells) in
-        let flats : length (flat cs) ≡ 2 * length cs = length-flat cs in
-        let written : sets index 0 (flat cs) ≡ flat cs ++ drop (0 + length (flat cs)) index = sets-eq (flat cs) index 0 (omega arith) in
-        rw (written, sym count) (listed-flat cs _)
+        rw (written, sym (length-take (cellsIn index) (packetsOf s .cells))) (listed-flat cs _)
 
 -- where parsing answers a count, it is the count of all packets, each has its cell, and the walk came to the end
 pub record Answered (s : List ℕ) (room n : ℕ) : Type 0 where
@@ -85,14 +95,30 @@ answered-all s room n e = by (ltb room (length (packetsOf s .cells))) (packetsOf
     by false (refuses r) f g e = absurd (let z : _≡_ {A = ℕ} 0 1 = cc in omega arith)
     by false (refusesAt r at) f g e = absurd (let z : _≡_ {A = ℕ} 0 1 = cc in omega arith)
 
--- and then the index lists exactly the packets met, for `from_bytes_into` and for `from_bytes`
+-- and then the index lists exactly the packets met, for `from_bytes_into` and for `from_bytes`, and each cell lies within the datagram
 module _ (s index : List ℕ) {n : ℕ} (e : parsed s (cellsIn index) ≡ answers n) where
+  all-taken : take (cellsIn index) (packetsOf s .cells) ≡ packetsOf s .cells
+  all-taken =
+      let a = answered-all s (cellsIn index) n e in
+      take-all (cellsIn index) (packetsOf s .cells) (omega (arith, a .all, a .fits))
+
   pub listed-all : listed s (parsesInto s index .1) n ≡ map (packetAt s) (packetsOf s .cells)
   listed-all =
       let a = answered-all s (cellsIn index) n e in
       let count : cellsWritten s index ≡ n = omega (arith, a .all, a .fits) in
-      let whole : take (cellsIn index) (packetsOf s .cells) ≡ packetsOf s .cells = take-all (cellsIn index) (packetsOf s .cells) (omega (arith, a .all, a .fits)) in
-      rw (sym count) (listed-into s index ∙ rw whole)
+      rw (sym count) (listed-into s index ∙ rw all-taken)
 
   pub listed-parsed : listed s (parses s index .1) n ≡ map (packetAt s) (packetsOf s .cells)
   listed-parsed = rw e listed-all
+
+  pub cells-there : 2 * n ≤ length (parses s index .1)
+  cells-there = rw (e, length-sets) (omega (arith, answered-all s (cellsIn index) n e .fits))
+
+  pub cell-within : (i : ℕ) → i < n → Within s (getD (parses s index .1) (2 * i) 0, getD (parses s index .1) (2 * i + 1) 0)
+  cell-within i h =
+      let cs = packetsOf s .cells in
+      let all : i < length cs = omega (arith, answered-all s (cellsIn index) n e .all) in
+      let left : parses s index .1 ≡ flat cs ++ drop (0 + length (flat cs)) index =
+      rw e (written s index ∙ ap (λ (x : List (ℕ × ℕ)). flat x ++ drop (0 + length (flat x)) index) all-taken) in
+      let cell = ap (λ (x : List ℕ). (getD x (2 * i) 0, getD x (2 * i + 1) 0)) left ∙ flat-at cs _ i all in
+      subst (Within s) (sym cell) (every-at (λ k. Within s) (0, 0) cs (within s) i all)

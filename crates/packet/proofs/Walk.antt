@@ -5,6 +5,7 @@ use mathlib.Core.Path.{_≡_, refl, sym, ap, _∙_}
 use mathlib.Core.Bool.{Bool, true, false, cond}
 use mathlib.Core.List.{List}
 use native.Mathlib.Omega.{arith}
+use native.Mathlib.Decide.{decLe}
 use native.Mathlib.Numerals.{unary-clauses}
 use native.Mathlib.Nat.{zero-add}
 use lib.ListN.{length, take, set}
@@ -14,9 +15,11 @@ use borrow.Author.Tests.{lt-ltb, le-ltb, leb-false}
 use Rattle.refusal.specs.Refusal.{numberOf}
 use Rattle.refusal.specs.Said.{Said, answers, refuses, refusesAt, checks}
 use Rattle.refusal.specs.declared.Refusal.{Refusal}
+use Rattle.packet.specs.declared.Look.{Look}
 use Rattle.packet.specs.declared.Look.the-variants.{Packet, Fault, End}
 use Rattle.packet.specs.Datagram.{Walk, ends, onto, walkBy, walkAt, packetChecks, payloadLength, readingLimit, packetsOf, counted, answered, parsed, flat, parsesInto, parses, cellsIn}
 use Rattle.packet.specs.Step.{Looked}
+use Rattle.packet.proofs.Step.{seen}
 
 -- more steps than there are bytes left change nothing
 steps-enough : (f g : ℕ) (s : List ℕ) (at : ℕ) → length s - at < f → length s - at < g → walkBy f s at ≡ walkBy g s at
@@ -125,3 +128,25 @@ module _ (s index : List ℕ) where
 
   pub parses-refused-at : {r at : ℕ} → parsed s (cellsIn index) ≡ refusesAt r at → _≡_ {A = Said ℕ × List ℕ} (refusesAt r at, index) (parses s index)
   parses-refused-at e = rw e
+
+-- a property that every ending has, and that a packet in front keeps, is the walk's
+module _ (s : List ℕ) (P : ℕ → Walk → Type 0) (ended : (at : ℕ) (e : Said Unit) → P at (ends e))
+    (onward : (at len : ℕ) (w : Walk) → at + 20 + len ≤ length s → P (at + 20 + len) w → P at (onto (at, len) w)) where
+  walk-steps : (steps at : ℕ) → length s - at < steps → P at (walkAt s at)
+  walk-steps zero at h = absurd (omega arith)
+  walk-steps (suc steps) at h = by (seen s at .0) (seen s at .1) (λ len w. walk-steps steps (at + 20 + len) (omega arith))
+    where
+      by : (r : Look) → Looked s at r → ((len : ℕ) → at + 20 + len ≤ length s → P (at + 20 + len) (walkAt s (at + 20 + len))) → P at (walkAt s at)
+      by (Packet len) l rest = rw (walk-packet s at l) (onward at len _ (l .within len refl) (rest len (l .within len refl)))
+      by (Fault r) l rest = rw (walk-fault s at l) (ended at _)
+      by End l rest = rw (walk-end s at l) (ended at _)
+
+  pub walk-all : P 0 (packetsOf s)
+  walk-all =
+      elim (decLe (length s) readingLimit) [
+        | no long ↦ rw (begin-long s (omega arith)) (ended 0 _)
+        | yes fits ↦ elim (decLe 20 (length s)) [
+          | no short ↦ rw (begin-short s fits (omega arith)) (ended 0 _)
+          | yes more ↦ rw (begin-walk s fits more) (walk-steps (suc (length s - 0)) 0 (omega arith))
+        ]
+      ]

@@ -15,7 +15,7 @@ ghost use Rattle.packet.specs.Datagram.{parsed, parses, parsesInto, pars
 ghost use Rattle.packet.specs.Step.{Looked};
 
 // RFC 768's longest length, less the 8 bytes of its header.
-const READING_LIMIT: usize = 65527;
+pub const READING_LIMIT: usize = 65527;
 
 pub enum PacketWritten {
     Bytes(usize),

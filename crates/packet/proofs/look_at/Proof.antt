@@ -7,8 +7,6 @@ use borrow.Author.Tests.{not-true, not-false}
 use Rattle.header.specs.Types.{rowOf}
 use Rattle.header.specs.Header.{typeAt}
 use Rattle.header.specs.declared.TypeRow.{TypeRow}
-use Rattle.packet.specs.Datagram.{fieldAt}
-use Rattle.packet.specs.Step.{Looked}
 use Rattle.packet.proofs.Step.{at-end, at-tail, at-unknown, at-bare, at-last-header, at-short-payload, at-whole-payload}
 use Rattle.packet.proofs.look_at.Statement.{statement}
 use Rattle.packet.proofs.look_at.Tie as tie
