@@ -1,0 +1,106 @@
+-- The receive buffer as it lies in lent memory: which receiver it means, refusal 12's test, and how a change of the receiver is written back.
+-- Document 01, "From packets to the reader" and the refusal table.
+use Prim.Native.Nat.{ℕ, zero, suc, _+_, _-_, _*_}
+use mathlib.Core.Bool.{Bool, true, false, cond, _&&_}
+use mathlib.Core.Option.{Option, none, some}
+use mathlib.Core.List.{List, [], _∷_}
+use lib.ListN.{length, take, drop, set, getD, replicate}
+use lib.Seq.{paste}
+use lib.Dec.{ltb, leb, eqb}
+use Rattle.ordered_bytes.specs.declared.OrderedBytes.{OrderedBytes}
+use Rattle.ordered_bytes.specs.Receiver.{Receiver, numbersFit}
+
+-- the state and all that is lent beside it
+pub record Buffer : Type 0 where
+  pub state : OrderedBytes
+  pub marks : List Bool
+  pub lengths : List ℕ
+  pub store : List ℕ
+
+-- N
+abbrev pub slots : Buffer → ℕ
+slots b = length (b .marks)
+
+-- W
+abbrev pub width : Buffer → ℕ
+width b = b .state .«slot_width»
+
+-- an index below 2 N, round the ring of N slots
+abbrev pub wrap : ℕ → ℕ → ℕ
+wrap n i = cond (ltb i n) i (i - n)
+
+-- the slot at a distance from the front slot
+abbrev pub slotAt : Buffer → ℕ → ℕ
+slotAt b distance = wrap (slots b) (b .state .«front_slot» + distance)
+
+-- what a slot holds: where it is marked, as many bytes as its length says, from the slot's place in the store on
+abbrev pub inSlot : Buffer → ℕ → Option (List ℕ)
+inSlot b i = cond (getD (b .marks) i false) (some (take (getD (b .lengths) i 0) (drop (i * width b) (b .store)))) none
+
+-- f 0, f 1 and so on, n of them
+abbrev pub tabulate : {A : Type 0} → ℕ → (ℕ → A) → List A
+tabulate zero f = []
+tabulate (suc n) f = f zero ∷ tabulate n (λ i. f (suc i))
+
+-- the receiver that the lent lists mean; the carry-over stands in "the extra W, at the end"
+unfoldable pub view : Buffer → Receiver
+view b = record {
+  front = b .state .«front_number»;
+  width = width b;
+  held = tabulate (slots b) (λ distance. inSlot b (slotAt b distance));
+  carry = take (b .state .«carry_len») (drop (slots b * width b) (b .store));
+}
+
+-- ---- refusal 12
+
+abbrev pub between : ℕ → ℕ → ℕ → Bool
+between least most n = leb least n && leb n most
+
+-- "N slots (1 to 2,000 ..), each W bytes wide (1 to 65,535), in a lent store of (N + 1) × W bytes": what `new` asks
+abbrev pub shapeFits : ℕ → List Bool → List ℕ → List ℕ → Bool
+shapeFits w marks lengths store =
+    between 1 2000 (length marks) && (between 1 65535 w && (eqb (length lengths) (length marks) && eqb (length store) ((length marks + 1) * w)))
+
+unfoldable pub allWithin : ℕ → List ℕ → Bool
+allWithin w [] = true
+allWithin w (l ∷ ls) = leb l w && allWithin w ls
+
+-- "N, W, store, front slot, slot or carry-over length out of range; a held number above 2^64 − 2"
+unfoldable pub wellFormed : Buffer → Bool
+wellFormed b =
+    shapeFits (width b) (b .marks) (b .lengths) (b .store)
+    && (ltb (b .state .«front_slot») (slots b)
+    && (leb (b .state .«carry_len») (width b)
+    && (allWithin (width b) (b .lengths)
+    && numbersFit (b .state .«front_number») (view b .held))))
+
+-- ---- writing back
+
+-- a payload stored in a slot: its mark, its length, and its bytes from the slot's start on
+abbrev pub stored : Buffer → ℕ → List ℕ → Buffer
+stored b i payload = record {
+  state = b .state;
+  marks = set (b .marks) i true;
+  lengths = set (b .lengths) i (length payload);
+  store = paste (b .store) (i * width b) payload (length payload);
+}
+
+-- the k slots from i on, round a ring of n, each set to x
+abbrev pub cleared : {A : Type 0} → ℕ → ℕ → ℕ → A → List A → List A
+cleared n i zero x l = l
+cleared n i (suc k) x l = cleared n (wrap n (i + 1)) k x (set l i x)
+
+-- k packets have left their slots from the front ("A taken slot loses its mark, its length becomes 0"), and the carry-over is another
+-- ("Carry-over begins at the extra W's start, its rest moved there after each read. No other store bytes change")
+abbrev pub taken : Buffer → ℕ → List ℕ → Buffer
+taken b k carry = record {
+  state = record {
+    «slot_width» = width b;
+    «front_slot» = slotAt b k;
+    «front_number» = b .state .«front_number» + k;
+    «carry_len» = length carry;
+  };
+  marks = cleared (slots b) (b .state .«front_slot») k false (b .marks);
+  lengths = cleared (slots b) (b .state .«front_slot») k 0 (b .lengths);
+  store = paste (b .store) (slots b * width b) carry (length carry);
+}
