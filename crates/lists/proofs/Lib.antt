@@ -4,3 +4,4 @@ pub mod Bytes
 pub mod Shift
 pub mod Rotated
 pub mod Take
+pub mod Part

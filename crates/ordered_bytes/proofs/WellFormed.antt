@@ -8,7 +8,7 @@ use mathlib.Core.List.{List, [], _∷_}
 use native.Mathlib.Omega.{arith}
 use native.Mathlib.Nat.{add-zero, add-suc, suc-add}
 use lib.ListN.{length, getD}
-use lib.Dec.{ltb, leb, eqb}
+use lib.Dec.{ltb, leb}
 use borrow.Author.Tests.{ltb-true, leb-true, eqb-true, lt-ltb, le-leb, eq-eqb}
 use Rattle.ordered_bytes.specs.Receiver.{largest, isHeld, numbersFit}
 use Rattle.ordered_bytes.specs.Buffer.{Buffer, slots, width, view, between, shapeFits, allWithin, wellFormed}
