@@ -86,8 +86,8 @@ module _ {b : Buffer} (g : Good b) where
       by true e = let z : take (getD (b .lengths) i 0) (drop (i * width b) (b .store)) ≡ p = cc in omega (arith, ap length z, length-in-slot h, g .lengths-w i)
       by false e = absurd (let z : _≡_ {A = ℕ} 0 1 = cc in omega arith)
 
-  pub held-small : (d : ℕ) {p : List ℕ} → getD (view b .held) d none ≡ some p → length p ≤ width b
-  held-small d e =
+  pub held-small : (d : ℕ) (p : List ℕ) → getD (view b .held) d none ≡ some p → length p ≤ width b
+  held-small d p e =
       either (slots b) d
       (λ h. let out : getD (view b .held) d none ≡ none = List·getD-eq-default (view b .held) none (rw length-held h) in absurd (let z : _≡_ {A = ℕ} 0 1 = cc in omega arith))
       (λ h. in-slot-small (slot-below h) (sym (held-at b h) ∙ e))
