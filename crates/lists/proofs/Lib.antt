@@ -5,3 +5,4 @@ pub mod Shift
 pub mod Rotated
 pub mod Take
 pub mod Part
+pub mod Fill

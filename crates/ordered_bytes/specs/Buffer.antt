@@ -17,6 +17,9 @@ pub record Buffer : Type 0 where
   pub lengths : List ℕ
   pub store : List ℕ
 
+abbrev pub bufferOf : OrderedBytes → List Bool → List ℕ → List ℕ → Buffer
+bufferOf o marks lengths store = record { state = o; marks = marks; lengths = lengths; store = store }
+
 -- N
 abbrev pub slots : Buffer → ℕ
 slots b = length (b .marks)

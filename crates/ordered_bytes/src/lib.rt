@@ -1,6 +1,13 @@
 // The receive buffer: packets held by number until the reader takes their bytes in order.
 // Ports net/ordered_bytes.rs; document 01, "From packets to the reader".
+ghost use mathlib.Core.Path.{_≡_};
+ghost use mathlib.Core.Bool.{true};
+ghost use Rattle.ordered_bytes.specs.Buffer.{bufferOf, wellFormed};
+ghost use Rattle.ordered_bytes.specs.Calls.{createdSays, startedSays, acceptedSays, peekedSays, consumedSays, consumedBytesSays, creating, starting, accepting, peeking, consuming, consumingBytes};
 use refusal::Refusal;
+
+mod slots;
+mod state;
 
 // What is small of the buffer. The rest is lent beside it: a mark and a length for each slot, and the store of (N + 1) × W bytes.
 pub struct OrderedBytes {
@@ -56,4 +63,147 @@ pub enum ConsumeBytesAnswer {
 pub struct ConsumedBytes {
     pub state: OrderedBytes,
     pub answer: ConsumeBytesAnswer,
+}
+
+// Refusal 12's test.
+pub fn well_formed(o: OrderedBytes, marks: &[bool], lengths: &[u32], store: &[u8]) -> bool
+    ensures { λ r. ⌜ r ≡ wellFormed (bufferOf o (now (marks .entry)) (now (lengths .entry)) (now (store .entry))) ⌝ }
+{
+    let slot_width = o.slot_width;
+    if !state::shape_fits(slot_width, marks, lengths, store) {
+        return false;
+    }
+    if marks.len() <= o.front_slot {
+        return false;
+    }
+    if slot_width < o.carry_len {
+        return false;
+    }
+    if !state::lengths_within(slot_width as u32, lengths) {
+        return false;
+    }
+    state::held_numbers_fit(o, marks)
+}
+
+// net/ordered_bytes.rs, OrderedBytes::new. The store is not written.
+pub fn new(
+    slot_width: usize,
+    start_packet_number: u64,
+    marks: &mut [bool],
+    lengths: &mut [u32],
+    store: &[u8],
+) -> Created
+    ensures { λ r. ⌜ record { said = createdSays r; marks = now (marks .exit); lengths = now (lengths .exit) } ≡ creating «slot_width» «start_packet_number» (now (marks .entry)) (now (lengths .entry)) (now (store .entry)) ⌝ }
+{
+    if !state::shape_fits(slot_width, marks, lengths, store) {
+        return Created::Refused(Refusal::Malformed);
+    }
+    slots::clear_marks(marks);
+    slots::clear_lengths(lengths);
+    Created::Buffer(OrderedBytes {
+        slot_width: slot_width,
+        front_slot: 0,
+        front_number: start_packet_number,
+        carry_len: 0,
+    })
+}
+
+// net/ordered_bytes.rs, OrderedBytes::set_start_packet_number, which has no refusal.
+pub fn set_start_packet_number(
+    o: OrderedBytes,
+    start_packet_number: u64,
+    marks: &[bool],
+    lengths: &[u32],
+    store: &[u8],
+) -> Started
+    ensures { λ r. ⌜ startedSays r ≡ starting (bufferOf o (now (marks .entry)) (now (lengths .entry)) (now (store .entry))) «start_packet_number» ⌝ }
+{
+    if !well_formed(o, marks, lengths, store) {
+        return Started::Refused(Refusal::Malformed);
+    }
+    if state::held_from(o, 0, marks) {
+        return Started::Refused(Refusal::PacketsHeld);
+    }
+    Started::Buffer(OrderedBytes {
+        slot_width: o.slot_width,
+        front_slot: o.front_slot,
+        front_number: start_packet_number,
+        carry_len: o.carry_len,
+    })
+}
+
+// net/ordered_bytes.rs, OrderedBytes::buffer_in_packet.
+pub fn buffer_in_packet(
+    o: OrderedBytes,
+    n: u64,
+    payload: &[u8],
+    marks: &mut [bool],
+    lengths: &mut [u32],
+    store: &mut [u8],
+) -> Accepted
+    ensures { λ r. ⌜ record { said = acceptedSays r; buffer = bufferOf o (now (marks .exit)) (now (lengths .exit)) (now (store .exit)) } ≡ accepting (bufferOf o (now (marks .entry)) (now (lengths .entry)) (now (store .entry))) n (now (payload .entry)) ⌝ }
+{
+    if !well_formed(o, marks, lengths, store) {
+        return Accepted::Refused(Refusal::Malformed);
+    }
+    buffer_in_packet_unchecked(o, n, payload, marks, lengths, store)
+}
+
+// The same without refusal 12's test.
+pub fn buffer_in_packet_unchecked(
+    o: OrderedBytes,
+    n: u64,
+    payload: &[u8],
+    marks: &mut [bool],
+    lengths: &mut [u32],
+    store: &mut [u8],
+) -> Accepted
+    requires { ⌜ wellFormed (bufferOf o (now marks) (now lengths) (now store)) ≡ true ⌝ }
+    ensures { λ r. ⌜ record { said = acceptedSays r; buffer = bufferOf o (now (marks .exit)) (now (lengths .exit)) (now (store .exit)) } ≡ accepting (bufferOf o (now (marks .entry)) (now (lengths .entry)) (now (store .entry))) n (now (payload .entry)) ⌝ }
+{
+    let front_number = o.front_number;
+    if n < front_number {
+        return Accepted::Refused(Refusal::Below);
+    }
+    let distance = n - front_number;
+    if marks.len() as u64 <= distance {
+        return Accepted::Refused(Refusal::Beyond);
+    }
+    if n == state::LARGEST {
+        return Accepted::Refused(Refusal::Exhausted);
+    }
+    let slot = slots::wrap_index(marks.len(), o.front_slot, distance as usize);
+    if marks[slot] {
+        return Accepted::Refused(Refusal::AlreadyHeld);
+    }
+    if o.slot_width < payload.len() {
+        return Accepted::Refused(Refusal::OutOfRange);
+    }
+    slots::store_in(slot, o.slot_width, payload, marks, lengths, store);
+    Accepted::Stored
+}
+
+// net/ordered_bytes.rs, OrderedBytes::peek.
+pub fn peek(o: OrderedBytes, marks: &[bool], lengths: &[u32], store: &[u8]) -> Peeked
+    ensures { λ r. ⌜ peekedSays r ≡ peeking (bufferOf o (now (marks .entry)) (now (lengths .entry)) (now (store .entry))) ⌝ }
+{
+    if !well_formed(o, marks, lengths, store) {
+        return Peeked::Refused(Refusal::Malformed);
+    }
+    peek_unchecked(o, marks, lengths, store)
+}
+
+// The same without refusal 12's test.
+pub fn peek_unchecked(o: OrderedBytes, marks: &[bool], lengths: &[u32], store: &[u8]) -> Peeked
+    requires { ⌜ wellFormed (bufferOf o (now marks) (now lengths) (now store)) ≡ true ⌝ }
+    ensures { λ r. ⌜ peekedSays r ≡ peeking (bufferOf o (now (marks .entry)) (now (lengths .entry)) (now (store .entry))) ⌝ }
+{
+    if 0 < o.carry_len {
+        return Peeked::Available;
+    }
+    let front_slot = o.front_slot;
+    if marks[front_slot] {
+        return Peeked::Available;
+    }
+    Peeked::Refused(Refusal::Empty)
 }

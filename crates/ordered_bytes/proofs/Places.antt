@@ -1,0 +1,37 @@
+-- What the tests of the calls ask of the receiver, read off the lent lists: front, widths, lengths, and which places are held.
+-- Assumes nothing.
+use Prim.Native.Nat.{ℕ, _+_, _-_, _<_}
+use mathlib.Core.Path.{_≡_, refl, sym, ap, _∙_}
+use mathlib.Core.Bool.{Bool, true, false, cond}
+use mathlib.Core.Option.{none, some}
+use mathlib.Core.List.{List}
+use lib.ListN.{getD}
+use Rattle.ordered_bytes.specs.Receiver.{isHeld, placeAt, available}
+use Rattle.ordered_bytes.specs.Buffer.{Buffer, slots, width, slotAt, view}
+use Rattle.ordered_bytes.proofs.WellFormed.{Good}
+use Rattle.ordered_bytes.proofs.Ring.{wrap-zero}
+use Rattle.ordered_bytes.proofs.View.{held-at}
+
+module _ (b : Buffer) where
+  pub view-front : view b .front ≡ b .state .«front_number»
+  unfolding view
+  view-front = refl
+
+  pub view-width : view b .width ≡ width b
+  unfolding view
+  view-width = refl
+
+  held-mark : (m : Bool) (p : List ℕ) → isHeld (cond m (some p) none) ≡ m
+  held-mark true p = refl
+  held-mark false p = refl
+
+  -- a place is held exactly if its slot is marked
+  pub mark-at : {d : ℕ} → d < slots b → isHeld (placeAt (view b) d) ≡ getD (b .marks) (slotAt b d) false
+  mark-at {d} h = ap isHeld (held-at b h) ∙ held-mark (getD (b .marks) (slotAt b d) false) _
+
+module _ {b : Buffer} (g : Good b) where
+  pub front-at : slotAt b 0 ≡ b .state .«front_slot»
+  front-at = wrap-zero (g .front-n)
+
+  pub front-mark : isHeld (placeAt (view b) 0) ≡ getD (b .marks) (b .state .«front_slot») false
+  front-mark = mark-at b (g .shape .some-slots) ∙ ap (λ (i : ℕ). getD (b .marks) i false) front-at

@@ -1,0 +1,55 @@
+-- `ordered_bytes::buffer_in_packet` meets its contract. Assumes nothing.
+use mathlib.Core.Path.{sym, _∙_}
+use borrow.Author.Needs.{needs}
+use borrow.Author.Tests.{not-true, not-false}
+use Rattle.ordered_bytes.specs.Calls.{accepting}
+use Rattle.ordered_bytes.proofs.buffer_in_packet.Statement.{statement}
+use Rattle.ordered_bytes.proofs.buffer_in_packet.Tie as tie
+
+well-formed-requires : tie.Need-well-formed-requires
+well-formed-requires c κs = search needs
+
+same-length : tie.Need-same-length
+same-length c = search needs
+
+same-length-2 : tie.Need-same-length-2
+same-length-2 c = search needs
+
+same-length-3 : tie.Need-same-length-3
+same-length-3 c = search needs
+
+returns : tie.Need-returns
+unfolding accepting
+returns c = simp (sym (c .before .well-formed .ensures) ∙ not-true _ (c .if1 .taken))
+
+buffer-in-packet-unchecked-requires : tie.Need-buffer-in-packet-unchecked-requires
+buffer-in-packet-unchecked-requires c κs =
+    let past = c .before .before .before in
+    sym (past .before .well-formed .ensures) ∙ not-false _ (past .if1 .left)
+
+same-length-4 : tie.Need-same-length-4
+same-length-4 c = search needs
+
+same-length-5 : tie.Need-same-length-5
+same-length-5 c = search needs
+
+same-length-6 : tie.Need-same-length-6
+same-length-6 c = search needs
+
+returns-2 : tie.Need-returns-2
+returns-2 c = search needs
+
+pub buffer-in-packet-spec : {M : Type 1} → statement M
+buffer-in-packet-spec =
+    tie.close
+    (tie.spec
+    well-formed-requires
+    same-length
+    same-length-2
+    same-length-3
+    returns
+    buffer-in-packet-unchecked-requires
+    same-length-4
+    same-length-5
+    same-length-6
+    returns-2)

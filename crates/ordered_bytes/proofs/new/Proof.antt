@@ -1,0 +1,54 @@
+-- `ordered_bytes::new` meets its contract. Assumes nothing.
+use mathlib.Core.Path.{sym, _∙_}
+use borrow.Author.Needs.{needs}
+use borrow.Author.Tests.{not-true, not-false}
+use Rattle.ordered_bytes.specs.Calls.{creating}
+use Rattle.ordered_bytes.proofs.new.Statement.{statement}
+use Rattle.ordered_bytes.proofs.new.Tie as tie
+
+shape-fits-requires : tie.Need-shape-fits-requires
+shape-fits-requires c κs = search needs
+
+same-length : tie.Need-same-length
+same-length c = search needs
+
+same-length-2 : tie.Need-same-length-2
+same-length-2 c = search needs
+
+returns : tie.Need-returns
+unfolding creating
+returns c = simp (sym (c .before .shape-fits .ensures) ∙ not-true _ (c .if1 .taken))
+
+clear-marks-requires : tie.Need-clear-marks-requires
+clear-marks-requires c κs = search needs
+
+clear-lengths-requires : tie.Need-clear-lengths-requires
+clear-lengths-requires c κs = search needs
+
+same-length-3 : tie.Need-same-length-3
+same-length-3 c = search needs
+
+same-length-4 : tie.Need-same-length-4
+same-length-4 c = search needs
+
+returns-2 : tie.Need-returns-2
+unfolding creating
+returns-2 c =
+    let lengths = c .before .before in
+    let marks = lengths .before .before .before .before in
+    let test = marks .before .before in
+    simp (sym (test .before .shape-fits .ensures) ∙ not-false _ (test .if1 .left)) (rw (lengths .clear-lengths .ensures, marks .clear-marks .ensures))
+
+pub new-spec : {M : Type 1} → statement M
+new-spec =
+    tie.close
+    (tie.spec
+    shape-fits-requires
+    same-length
+    same-length-2
+    returns
+    clear-marks-requires
+    clear-lengths-requires
+    same-length-3
+    same-length-4
+    returns-2)

@@ -1,0 +1,58 @@
+-- `ordered_bytes::slots::clear_marks` meets its contract. The invariant: the first i marks are false, the others as they were. Assumes nothing.
+use Prim.Native.Nat.{_-_, _≤_}
+use mathlib.Core.Path.{_≡_, refl, ap, _∙_}
+use mathlib.Core.Bool.{Bool, false}
+use mathlib.Core.List.{List, _++_}
+use native.Mathlib.Omega.{arith}
+use lib.ListN.{length, drop, set, replicate, length-set}
+use Rattle.lists.proofs.Fill.{fill-more, fill-all}
+use borrow.Author.Needs.{needs}
+use Rattle.ordered_bytes.proofs.slots.clear_marks.Statement.{statement}
+use Rattle.ordered_bytes.proofs.slots.clear_marks.Tie as tie
+
+abbrev Inv-loop : tie.InvT-loop
+Inv-loop marks₀ i₀ marks i = (i ≤ length marks₀) × (length marks ≡ length marks₀) × (marks ≡ replicate i false ++ drop i marks₀)
+
+abbrev μ-loop : tie.MeasureT-loop
+μ-loop marks₀ i₀ marks i = length marks₀ - i
+
+loop-holds : tie.Need-loop-holds Inv-loop μ-loop
+loop-holds c = (omega arith, refl, refl)
+
+slice-write-marks : tie.Need-slice-write-marks Inv-loop μ-loop
+slice-write-marks c = search needs
+
+add-i : tie.Need-add-i Inv-loop μ-loop
+add-i c = search needs
+
+loop-less : tie.Need-loop-less Inv-loop μ-loop
+loop-less c = search needs
+
+loop-again : tie.Need-loop-again Inv-loop μ-loop
+loop-again c =
+    let at = c .before in
+    let old = at .before .args .marks .now in
+    (omega arith, simp length-set (at .loop .inv .1), ap (λ (l : List Bool). set l (at .loop .i) false) (at .loop .inv .2) ∙ fill-more false (at .loop .i) old (omega arith))
+
+same-length : tie.Need-same-length Inv-loop μ-loop
+same-length c = search needs
+
+returns : tie.Need-returns Inv-loop μ-loop
+returns c =
+    let at = c .before in
+    let end : at .loop .i ≡ length (at .before .args .marks .now) = omega arith in
+    at .loop .inv .2 ∙ fill-all false (at .loop .i) (at .before .args .marks .now) end
+
+pub clear-marks-spec : {M : Type 1} → statement M
+clear-marks-spec =
+    tie.close
+    (tie.spec
+    Inv-loop
+    μ-loop
+    loop-holds
+    slice-write-marks
+    add-i
+    loop-less
+    loop-again
+    same-length
+    returns)

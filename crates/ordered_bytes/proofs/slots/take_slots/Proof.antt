@@ -1,0 +1,80 @@
+-- `ordered_bytes::slots::take_slots` meets its contract. The invariant: clearing what is left, from the present slot on, gives what clearing all gave.
+-- Assumes nothing.
+use Prim.Native.Nat.{suc, _+_, _-_, _<_}
+use mathlib.Core.Path.{_≡_}
+use mathlib.Core.Bool.{false}
+use native.Mathlib.Omega.{arith}
+use lib.ListN.{length, length-set}
+use borrow.Author.Needs.{needs}
+use Rattle.ordered_bytes.specs.Buffer.{wrap, cleared}
+use Rattle.ordered_bytes.proofs.Loops.{wrap-step}
+use Rattle.ordered_bytes.proofs.slots.take_slots.Statement.{statement}
+use Rattle.ordered_bytes.proofs.slots.take_slots.Tie as tie
+
+abbrev Inv-loop : tie.InvT-loop
+Inv-loop first count marks₀ lengths₀ n slot₀ left₀ marks lengths slot left =
+    (slot < n) × (length marks ≡ n) × (length lengths ≡ n)
+    × (cleared n slot left false marks ≡ cleared n first count false marks₀) × (cleared n slot left 0 lengths ≡ cleared n first count 0 lengths₀)
+
+abbrev μ-loop : tie.MeasureT-loop
+μ-loop first count marks₀ lengths₀ n slot₀ left₀ marks lengths slot left = left
+
+loop-holds : tie.Need-loop-holds Inv-loop μ-loop
+loop-holds c = search needs
+
+slice-write-marks : tie.Need-slice-write-marks Inv-loop μ-loop
+slice-write-marks c = search needs
+
+mul-lengths : tie.Need-mul-lengths Inv-loop μ-loop
+mul-lengths c = search needs
+
+slice-write-lengths : tie.Need-slice-write-lengths Inv-loop μ-loop
+slice-write-lengths c = search needs
+
+wrap-index-requires : tie.Need-wrap-index-requires Inv-loop μ-loop
+wrap-index-requires c κs = search needs
+
+sub-left : tie.Need-sub-left Inv-loop μ-loop
+sub-left c = search needs
+
+loop-less : tie.Need-loop-less Inv-loop μ-loop
+loop-less c = search needs
+
+loop-again : tie.Need-loop-again Inv-loop μ-loop
+loop-again c =
+    let at = c .before .before in
+    let inv = at .loop .inv in
+    let n = length (at .before .before .before .args .marks .now) in
+    let next : c .wrap-index .result ≡ wrap n (at .loop .slot + 1) = c .wrap-index .ensures in
+    let left : at .loop .left ≡ suc (at .loop .left - 1) = omega arith in
+    (rw next (wrap-step (inv .0)), simp length-set (inv .1), simp length-set (inv .2), rw next (rw left at (inv .3)), rw next (rw left at (inv .4)))
+
+same-length : tie.Need-same-length Inv-loop μ-loop
+same-length c = search needs
+
+same-length-2 : tie.Need-same-length-2 Inv-loop μ-loop
+same-length-2 c = search needs
+
+returns : tie.Need-returns Inv-loop μ-loop
+returns c =
+    let at = c .before in
+    let done : at .loop .left ≡ 0 = omega arith in
+    (rw done at (at .loop .inv .3), rw done at (at .loop .inv .4))
+
+pub take-slots-spec : {M : Type 1} → statement M
+take-slots-spec =
+    tie.close
+    (tie.spec
+    Inv-loop
+    μ-loop
+    loop-holds
+    slice-write-marks
+    mul-lengths
+    slice-write-lengths
+    wrap-index-requires
+    sub-left
+    loop-less
+    loop-again
+    same-length
+    same-length-2
+    returns)
