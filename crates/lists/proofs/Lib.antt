@@ -6,3 +6,4 @@ pub mod Rotated
 pub mod Take
 pub mod Part
 pub mod Fill
+pub mod Pad

@@ -5,3 +5,5 @@ pub mod Walk
 pub mod Places
 pub mod Tests
 pub mod Loops
+pub mod Outcome
+pub mod Kept

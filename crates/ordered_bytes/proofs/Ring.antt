@@ -27,8 +27,8 @@ wrapped : (n i : ℕ) → ((wrap n i ≡ i) × (i < n)) ⊎ ((wrap n i ≡ i - n
 wrapped n i = either n i (λ h. inr (wrap-high h, h)) (λ h. inl (wrap-low h, h))
 
 module _ {n i : ℕ} (front : i < n) where
-  -- no distance below n leads out of the ring
-  pub wrap-below : {j : ℕ} → j < n → wrap n (i + j) < n
+  -- no distance up to n leads out of the ring
+  pub wrap-below : {j : ℕ} → j ≤ n → wrap n (i + j) < n
   wrap-below {j} h = by (wrapped n (i + j))
     where
       by : ((wrap n (i + j) ≡ i + j) × (i + j < n)) ⊎ ((wrap n (i + j) ≡ i + j - n) × (n ≤ i + j)) → wrap n (i + j) < n

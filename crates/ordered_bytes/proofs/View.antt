@@ -5,14 +5,15 @@ use mathlib.Core.Path.{_≡_, refl, sym, ap, _∙_}
 use mathlib.Core.Logic.{_⊎_, inl, inr, _≢_}
 use mathlib.Core.Bool.{Bool, true, false, cond}
 use mathlib.Core.Option.{Option, none, some}
-use mathlib.Core.List.{List, _++_}
+use mathlib.Core.List.{List, [], _++_}
 use native.Mathlib.Omega.{arith}
 use native.Mathlib.Decide.{ℕ-discrete}
-use native.Mathlib.Nat.{suc-mul, mul-le-mul-right, le-refl}
+use native.Mathlib.Nat.{suc-mul, mul-le-mul-right, le-refl, le-of-lt, le-add-right}
 use native.Mathlib.Numerals.{add-one}
-use lib.ListN.{length, take, drop, set, getD, replicate, length-set, length-drop, length-append, length-replicate, getD-replicate, List·getD-append, List·getD-eq-default}
-use lib.Seq.{paste, ext-getD, getD-set-same, getD-set-other, getD-drop, getD-append-add}
+use lib.ListN.{length, take, drop, set, getD, replicate, length-set, length-drop, length-append, length-replicate, List·getD-eq-default}
+use lib.Seq.{paste, ext-getD, getD-set-same, getD-set-other}
 use Rattle.lists.proofs.Part.{part-before, part-behind, part-pasted}
+use Rattle.lists.proofs.Pad.{getD-all, getD-moved}
 use Rattle.lists.proofs.Paste.{length-part}
 use Rattle.ordered_bytes.specs.Receiver.{accepted, moved}
 use Rattle.ordered_bytes.specs.Buffer.{Buffer, slots, width, slotAt, inSlot, tabulate, view, stored, taken}
@@ -48,8 +49,30 @@ same-held : (b : Buffer) (held : List (Option (List ℕ))) → length held ≡ s
 same-held b held e f =
     ext-getD none (view b .held) held (length-held b ∙ sym e) (λ d h. let l : d < slots b = omega (arith, length-held b) in held-at b l ∙ f d l)
 
+-- ---- as `new` leaves it
+
+abbrev pub fresh : ℕ → ℕ → List Bool → List ℕ → List ℕ → Buffer
+fresh w s marks lengths store = record {
+  state = record { «slot_width» = w; «front_slot» = 0; «front_number» = s; «carry_len» = 0 };
+  marks = replicate (length marks) false;
+  lengths = replicate (length lengths) 0;
+  store = store;
+}
+
+-- nothing is held and nothing carried over
+pub view-fresh : (w s : ℕ) (marks : List Bool) (lengths store : List ℕ)
+    → view (fresh w s marks lengths store) ≡ record { front = s; width = w; held = replicate (length marks) none; carry = [] }
+unfolding view
+view-fresh w s marks lengths store =
+    λ t. record { front = s; width = w; held = held t; carry = [] }
+  where
+    held : view (fresh w s marks lengths store) .held ≡ replicate (length marks) none
+    held =
+        same-held (fresh w s marks lengths store) (replicate (length marks) none) (simp length-replicate)
+        (λ d h. rw (getD-all false (length marks) _) (sym (getD-all {A = Option (List ℕ)} none (length marks) d)))
+
 module _ {b : Buffer} (g : Good b) where
-  pub slot-below : {d : ℕ} → d < slots b → slotAt b d < slots b
+  pub slot-below : {d : ℕ} → d ≤ slots b → slotAt b d < slots b
   slot-below h = wrap-below (g .front-n) h
 
   pub slot-injective : {d e : ℕ} → d < slots b → e < slots b → slotAt b d ≡ slotAt b e → d ≡ e
@@ -90,7 +113,7 @@ module _ {b : Buffer} (g : Good b) where
   held-small d p e =
       either (slots b) d
       (λ h. let out : getD (view b .held) d none ≡ none = List·getD-eq-default (view b .held) none (rw length-held h) in absurd (let z : _≡_ {A = ℕ} 0 1 = cc in omega arith))
-      (λ h. in-slot-small (slot-below h) (sym (held-at b h) ∙ e))
+      (λ h. in-slot-small (slot-below (le-of-lt h)) (sym (held-at b h) ∙ e))
 
   -- ---- a payload stored in a slot
 
@@ -115,15 +138,16 @@ module _ {b : Buffer} (g : Good b) where
         rw length-set
         (part-behind (b .store) p (slots b * width b) (b .state .«carry_len») (i * width b) (length p) (omega (arith, store-long, slot-ends here)) (le-refl _) (omega (arith, slot-ends here)))
 
-  stored-held : {d : ℕ} (p : List ℕ) → d < slots b → length p ≤ width b → view (stored b (slotAt b d) p) .held ≡ set (view b .held) d (some p)
+  -- what is held then
+  pub stored-held : {d : ℕ} (p : List ℕ) → d < slots b → length p ≤ width b → view (stored b (slotAt b d) p) .held ≡ set (view b .held) d (some p)
   stored-held {d} p h fits =
       same-held (stored b (slotAt b d) p) (set (view b .held) d (some p)) (simp (length-set, length-held))
       (λ e l.
       let k : e < slots b = rw length-set at l in
       rw length-set
       (elim (ℕ-discrete e d) [
-        | yes q ↦ rw q (stored-same p (slot-below h) fits ∙ sym (getD-set-same (view b .held) d (some p) none (rw length-held h)))
-        | no q ↦ stored-other p (slot-below h) fits (λ s. q (slot-injective k h s)) ∙ sym (getD-set-other (view b .held) d e (some p) none q ∙ held-at b k)
+        | yes q ↦ rw q (stored-same p (slot-below (le-of-lt h)) fits ∙ sym (getD-set-same (view b .held) d (some p) none (rw length-held h)))
+        | no q ↦ stored-other p (slot-below (le-of-lt h)) fits (λ s. q (slot-injective k h s)) ∙ sym (getD-set-other (view b .held) d e (some p) none q ∙ held-at b k)
       ]))
 
   -- a stored payload is an accepted one
@@ -135,7 +159,7 @@ module _ {b : Buffer} (g : Good b) where
         front = b .state .«front_number»;
         width = width b;
         held = stored-held p h fits t;
-        carry = stored-carry p (slot-below h) fits t;
+        carry = stored-carry p (slot-below (le-of-lt h)) fits t;
       }
 
   -- ---- k packets taken from the front
@@ -152,7 +176,7 @@ module _ {b : Buffer} (g : Good b) where
         rw (
           cleared-later (slots b) false front d k (b .marks) false (g .front-n) later h,
           cleared-later (slots b) 0 front d k (b .lengths) 0 (g .front-n) later h,
-          part-before (b .store) c (i * width b) (getD (b .lengths) i 0) (slots b * width b) (length c) (omega (arith, store-long)) (omega (arith, slot-ends (slot-below h), g .lengths-w i)),
+          part-before (b .store) c (i * width b) (getD (b .lengths) i 0) (slots b * width b) (length c) (omega (arith, store-long)) (omega (arith, slot-ends (slot-below (le-of-lt h)), g .lengths-w i)),
         )
 
     taken-cleared : {d : ℕ} → d < k → inSlot (taken b k c) (slotAt b d) ≡ none
@@ -160,21 +184,15 @@ module _ {b : Buffer} (g : Good b) where
 
     taken-at : (d : ℕ) → d < slots b → inSlot (taken b k c) (slotAt (taken b k c) d) ≡ getD (drop k (view b .held) ++ replicate k none) d none
     taken-at d h =
-        let left : length (drop k (view b .held)) ≡ slots b - k = length-drop k (view b .held) ∙ rw length-held in
-        rw taken-slots
+        rw (taken-slots, getD-moved none (view b .held) k d)
         (either (slots b) (k + d)
         (λ round.
-        let past : d ≡ length (drop k (view b .held)) + (k + d - slots b) = omega arith in
-        rw (wrap-round (g .front-n) k d few h round, taken-cleared (let z : k + d - slots b < k = omega arith in z))
-        (sym
-        (ap (λ (x : ℕ). getD (drop k (view b .held) ++ replicate k none) x none) past
-        ∙ getD-append-add (drop k (view b .held)) (replicate k none) (k + d - slots b) none
-        ∙ getD-replicate k (k + d - slots b) none none (omega arith))))
-        (λ near.
-        rw (wrap-on (g .front-n) k d (let z : k + d ≤ slots b = omega arith in z), taken-later (let z : k ≤ k + d = omega arith in z) near)
-        (sym (List·getD-append (drop k (view b .held)) (replicate k none) none d (omega arith) ∙ getD-drop k (view b .held) d none ∙ held-at b near))))
+        let gone : inSlot (taken b k c) (slotAt b (k + d - slots b)) ≡ none = taken-cleared (omega arith) in
+        rw (wrap-round (g .front-n) k d few h round, gone) (sym (List·getD-eq-default (view b .held) none (rw length-held round))))
+        (λ near. rw (wrap-on (g .front-n) k d (le-of-lt near)) (taken-later (le-add-right k d) near ∙ sym (held-at b near))))
 
-    taken-held : view (taken b k c) .held ≡ drop k (view b .held) ++ replicate k none
+    -- what is held then
+    pub taken-held : view (taken b k c) .held ≡ drop k (view b .held) ++ replicate k none
     taken-held =
         same-held (taken b k c) (drop k (view b .held) ++ replicate k none)
         (simp (taken-slots, length-append, length-drop, length-held, length-replicate) (omega arith))
