@@ -7,3 +7,4 @@ pub mod Tests
 pub mod Loops
 pub mod Outcome
 pub mod Kept
+pub mod Reading

@@ -2,7 +2,8 @@
 -- Assumes nothing.
 use Prim.Native.Nat.{ℕ, zero, suc, _+_, _-_, _≤_, _<_, zero-le, suc-le-suc}
 use mathlib.Core.Path.{_≡_, refl, sym, ap, _∙_}
-use mathlib.Core.Bool.{Bool, true, false, cond}
+use mathlib.Core.Logic.{_≢_}
+use mathlib.Core.Bool.{Bool, true, false, cond, false≢true}
 use mathlib.Core.Option.{Option, none, some}
 use mathlib.Core.List.{List, [], _∷_, _++_, append-assoc, append-nil}
 use native.Mathlib.Omega.{arith}
@@ -10,8 +11,8 @@ use native.Mathlib.Numerals.{add-one}
 use lib.ListN.{length, drop, getD, length-take, length-drop, length-append, drop-of-length-le, take-append-drop, List·getD-eq-default}
 use lib.Seq.{drop-cons}
 use lib.Dec.{ltb}
-use borrow.Author.Tests.{ltb-false, lt-ltb, le-ltb}
-use Rattle.ordered_bytes.specs.Receiver.{Receiver, Walk, Read, nothing, whole, split, walk, payloads, join, carryPart, carryAndPackets, consumed, carryPiece, takenPayloads, pieces, consumedPieces}
+use borrow.Author.Tests.{ltb-true, ltb-false, lt-ltb, le-ltb, eqb-true, eqb-false}
+use Rattle.ordered_bytes.specs.Receiver.{Receiver, Walk, Read, isHeld, placeAt, base, nothing, whole, split, walk, payloads, join, carryPart, carryAndPackets, consumed, carryPiece, takenPayloads, pieces, consumedPieces}
 use Rattle.ordered_bytes.proofs.Ring.{either}
 
 -- ---- a step, by what stands at distance k
@@ -144,6 +145,33 @@ walked (suc room) (some p ∷ h) = by (ltb (suc room) (length p)) refl (walked (
     by true e k = walked-split (suc room) p h
     by false e k = walked-whole (ltb-false (suc room) (length p) e) k
 
+-- a walk with room that gave nothing came to a place that is not held, and split nothing
+pub walk-dry : (room : ℕ) (h : List (Option (List ℕ))) → 0 < room → length (walk room h .bytes) ≡ 0 → (getD h (walk room h .packets) none ≡ none) × (walk room h .rest ≡ [])
+unfolding walk
+walk-dry room [] free dry = (refl, refl)
+walk-dry room (none ∷ h) free dry = (refl, refl)
+walk-dry zero (some p ∷ h) free dry = absurd (omega arith)
+walk-dry (suc room) (some p ∷ h) free dry = by (ltb (suc room) (length p)) refl (walk-dry (suc room - length p) h) dry
+  where
+    rest : Walk
+    rest = walk (suc room - length p) h
+
+    by : (long : Bool) → ltb (suc room) (length p) ≡ long
+        → (0 < suc room - length p → length (rest .bytes) ≡ 0 → (getD h (rest .packets) none ≡ none) × (rest .rest ≡ []))
+        → length (cond long (split (suc room) p) (whole p rest) .bytes) ≡ 0
+        → (getD (some p ∷ h) (cond long (split (suc room) p) (whole p rest) .packets) none ≡ none) × (cond long (split (suc room) p) (whole p rest) .rest ≡ [])
+    by true e ih none-given = absurd (omega (arith, length-take (suc room) p, ltb-true (suc room) (length p) e))
+    by false e ih none-given =
+        let both : length p + length (rest .bytes) ≡ 0 = sym (length-append p (rest .bytes)) ∙ none-given in
+        ih (omega arith) (omega arith)
+
+pub payloads-dry : (k : ℕ) (h : List (Option (List ℕ))) → 0 < k → length (payloads k h) ≡ 0 → getD h 0 none ≡ none
+unfolding payloads
+payloads-dry zero h free dry = absurd (omega arith)
+payloads-dry (suc k) [] free dry = refl
+payloads-dry (suc k) (none ∷ h) free dry = refl
+payloads-dry (suc k) (some p ∷ h) free dry = absurd (omega arith)
+
 -- ---- the reads
 
 -- a carry-over longer than the length
@@ -156,23 +184,41 @@ pub consumed-whole : (r : Receiver) (len : ℕ) → length (r .carry) ≤ len �
 unfolding consumed
 consumed-whole r len h = rw (le-ltb len (length (r .carry)) h)
 
--- what a read took: the places were all held, and what it gave with what it carries over are the old carry-over and their payloads
+-- what a read took: the places were all held, what it gave with what it carries over are the old carry-over and their payloads,
+-- and where it took some it names the first one's number
 pub record Took (r : Receiver) (x : Read) : Type 0 where
   pub were : length (payloads (x .packets) (r .held)) ≡ x .packets
   pub flow : x .bytes ++ x .carry ≡ r .carry ++ join (payloads (x .packets) (r .held))
+  pub first : 0 < x .packets → x .base ≡ r .front
 
 -- so there were as many places
 pub took-few : {r : Receiver} {x : Read} → Took r x → x .packets ≤ length (r .held)
 took-few {r} {x} t = omega (arith, t .were, payloads-most (x .packets) (r .held))
 
+-- where payloads were taken, the front place was held
+front-held : (k : ℕ) (h : List (Option (List ℕ))) → length (payloads k h) ≡ k → 0 < k → isHeld (getD h 0 none) ≡ true
+unfolding payloads
+front-held zero h e taken = absurd (omega arith)
+front-held (suc k) [] e taken = absurd (omega arith)
+front-held (suc k) (none ∷ h) e taken = absurd (omega arith)
+front-held (suc k) (some p ∷ h) e taken = refl
+
+base-first : (r : Receiver) (k : ℕ) → length (payloads k (r .held)) ≡ k → 0 < k → base r ≡ r .front
+base-first r k e taken = rw (front-held k (r .held) e taken)
+
 took-part : (r : Receiver) (len : ℕ) → Took r (carryPart r len)
 unfolding payloads join
-took-part r len = record { were = refl; flow = take-append-drop len (r .carry) ∙ sym (append-nil (r .carry)) }
+took-part r len = record {
+  were = refl;
+  flow = take-append-drop len (r .carry) ∙ sym (append-nil (r .carry));
+  first = λ taken. absurd (omega arith);
+}
 
 took-walk : (r : Receiver) {room : ℕ} {w : Walk} → Walked room (r .held) w → Took r (carryAndPackets r w)
 took-walk r {w = w} k = record {
   were = k .were;
   flow = append-assoc (r .carry) (w .bytes) (w .rest) ∙ ap (λ (x : List ℕ). r .carry ++ x) (k .flow);
+  first = base-first r (w .packets) (k .were);
 }
 
 join-carry : (c : List ℕ) (ps : List (List ℕ)) → join (carryPiece c ++ ps) ≡ c ++ join ps
@@ -206,7 +252,51 @@ module _ (r : Receiver) where
   join-pieces limit = join-carry (r .carry) (takenPayloads r limit)
 
   pub pieces-took : (limit : ℕ) → Took r (consumedPieces r limit)
-  pieces-took limit = record {
-    were = ap length (payloads-again (limit - length (carryPiece (r .carry))) (r .held));
-    flow = append-nil _ ∙ join-pieces limit ∙ rw payloads-again;
-  }
+  pieces-took limit =
+      let again = payloads-again (limit - length (carryPiece (r .carry))) (r .held) in
+      record {
+        were = ap length again;
+        flow = append-nil _ ∙ join-pieces limit ∙ rw again;
+        first = base-first r (length (takenPayloads r limit)) (ap length again);
+      }
+
+  -- a read of a length that is not empty gives a byte
+  pub consumed-some : (len : ℕ) → 0 < len → consumed r len .empty ≡ false → 0 < length (consumed r len .bytes)
+  consumed-some len asked =
+      either (length (r .carry)) len
+      (λ h. rw (consumed-whole r len h) (λ e. let z = eqb-false (length (r .carry ++ walk (len - length (r .carry)) (r .held) .bytes)) 0 e in omega arith))
+      (λ h. rw (consumed-part r len h) (λ e. omega (arith, length-take len (r .carry))))
+
+  -- one that is empty gives none
+  pub consumed-none : (len : ℕ) → consumed r len .empty ≡ true → length (consumed r len .bytes) ≡ 0
+  consumed-none len =
+      either (length (r .carry)) len
+      (λ h. rw (consumed-whole r len h) (λ e. eqb-true _ _ e))
+      (λ h. rw (consumed-part r len h) (λ e. absurd (false≢true e)))
+
+  -- and leaves nothing to give
+  pub consumed-dry : (len : ℕ) → 0 < len → consumed r len .empty ≡ true → (consumed r len .carry ≡ []) × (placeAt r (consumed r len .packets) ≡ none)
+  consumed-dry len asked =
+      either (length (r .carry)) len
+      (λ h. rw (consumed-whole r len h) (λ e.
+      let w = walk (len - length (r .carry)) (r .held) in
+      let z : length (r .carry) + length (w .bytes) ≡ 0 = sym (length-append (r .carry) (w .bytes)) ∙ eqb-true _ _ e in
+      let dry = walk-dry (len - length (r .carry)) (r .held) (omega arith) (omega arith) in
+      (dry .1, dry .0)))
+      (λ h. rw (consumed-part r len h) (λ e. absurd (false≢true e)))
+
+  -- no piece: nothing was there to give
+  pub pieces-dry : (limit : ℕ) → 0 < limit → length (pieces r limit) ≡ 0 → (r .carry ≡ []) × (placeAt r 0 ≡ none)
+  pieces-dry limit asked = by (r .carry) (r .held)
+    where
+      by : (c : List ℕ) (h : List (Option (List ℕ))) → length (carryPiece c ++ payloads (limit - length (carryPiece c)) h) ≡ 0 → (c ≡ []) × (getD h 0 none ≡ none)
+      by [] h e = (refl, payloads-dry (limit - 0) h (omega arith) e)
+      by (x ∷ c) h e = absurd (omega arith)
+
+  -- a piece is a byte at least, or a packet
+  pub pieces-some : (limit : ℕ) → length (pieces r limit) ≢ 0 → 0 < length (takenPayloads r limit) + length (join (pieces r limit))
+  pieces-some limit e = rw join-pieces (by (r .carry) (takenPayloads r limit) e)
+    where
+      by : (c : List ℕ) (ps : List (List ℕ)) → length (carryPiece c ++ ps) ≢ 0 → 0 < length ps + length (c ++ join ps)
+      by [] ps e = omega arith
+      by (x ∷ c) ps e = omega arith
