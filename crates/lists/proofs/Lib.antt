@@ -7,3 +7,4 @@ pub mod Take
 pub mod Part
 pub mod Fill
 pub mod Pad
+pub mod Cut

@@ -8,3 +8,5 @@ pub mod Loops
 pub mod Outcome
 pub mod Kept
 pub mod Reading
+pub mod Taken
+pub mod Given

@@ -5,8 +5,9 @@ use mathlib.Core.Path.{_≡_, refl, sym, ap, _∙_}
 use mathlib.Core.Bool.{Bool, true, false, cond}
 use mathlib.Core.Option.{none, some}
 use mathlib.Core.List.{List}
+use native.Mathlib.Omega.{arith}
 use lib.ListN.{getD}
-use Rattle.ordered_bytes.specs.Receiver.{isHeld, placeAt, available}
+use Rattle.ordered_bytes.specs.Receiver.{isHeld, placeAt, base}
 use Rattle.ordered_bytes.specs.Buffer.{Buffer, slots, width, slotAt, view}
 use Rattle.ordered_bytes.proofs.WellFormed.{Good}
 use Rattle.ordered_bytes.proofs.Ring.{wrap-zero}
@@ -28,6 +29,12 @@ module _ (b : Buffer) where
   -- a place is held exactly if its slot is marked
   pub mark-at : {d : ℕ} → d < slots b → isHeld (placeAt (view b) d) ≡ getD (b .marks) (slotAt b d) false
   mark-at {d} h = ap isHeld (held-at b h) ∙ held-mark (getD (b .marks) (slotAt b d) false) _
+
+  -- the front number, where the front slot is marked
+  pub base-at : b .state .«front_slot» < slots b → base (view b) ≡ cond (getD (b .marks) (b .state .«front_slot») false) (b .state .«front_number») 0
+  base-at h =
+      let some-slots : 0 < slots b = omega arith in
+      rw (mark-at some-slots, view-front, wrap-zero h)
 
 module _ {b : Buffer} (g : Good b) where
   pub front-at : slotAt b 0 ≡ b .state .«front_slot»

@@ -6,8 +6,10 @@ ghost use Rattle.ordered_bytes.specs.Buffer.{bufferOf, wellFormed};
 ghost use Rattle.ordered_bytes.specs.Calls.{createdSays, startedSays, acceptedSays, peekedSays, consumedSays, consumedBytesSays, creating, starting, accepting, peeking, consuming, consumingBytes};
 use refusal::Refusal;
 
+mod front;
 mod slots;
 mod state;
+mod stream;
 
 // What is small of the buffer. The rest is lent beside it: a mark and a length for each slot, and the store of (N + 1) × W bytes.
 pub struct OrderedBytes {
@@ -206,4 +208,48 @@ pub fn peek_unchecked(o: OrderedBytes, marks: &[bool], lengths: &[u32], store: &
         return Peeked::Available;
     }
     Peeked::Refused(Refusal::Empty)
+}
+
+// net/ordered_bytes.rs, OrderedBytes::consume.
+pub fn consume(
+    o: OrderedBytes,
+    len: usize,
+    buf: &mut [u8],
+    marks: &mut [bool],
+    lengths: &mut [u32],
+    store: &mut [u8],
+) -> Consumed
+    ensures { λ r. ⌜ record { said = consumedSays (r .answer); buffer = bufferOf (r .state) (now (marks .exit)) (now (lengths .exit)) (now (store .exit)); out = now (buf .exit) } ≡ consuming (bufferOf o (now (marks .entry)) (now (lengths .entry)) (now (store .entry))) len (now (buf .entry)) ⌝ }
+{
+    if !well_formed(o, marks, lengths, store) {
+        return Consumed {
+            state: o,
+            answer: ConsumeAnswer::Refused(Refusal::Malformed),
+        };
+    }
+    consume_unchecked(o, len, buf, marks, lengths, store)
+}
+
+// The same without refusal 12's test.
+pub fn consume_unchecked(
+    o: OrderedBytes,
+    len: usize,
+    buf: &mut [u8],
+    marks: &mut [bool],
+    lengths: &mut [u32],
+    store: &mut [u8],
+) -> Consumed
+    requires { ⌜ wellFormed (bufferOf o (now marks) (now lengths) (now store)) ≡ true ⌝ }
+    ensures { λ r. ⌜ record { said = consumedSays (r .answer); buffer = bufferOf (r .state) (now (marks .exit)) (now (lengths .exit)) (now (store .exit)); out = now (buf .exit) } ≡ consuming (bufferOf o (now (marks .entry)) (now (lengths .entry)) (now (store .entry))) len (now (buf .entry)) ⌝ }
+{
+    if buf.len() < len {
+        return Consumed {
+            state: o,
+            answer: ConsumeAnswer::Refused(Refusal::BufferShort),
+        };
+    }
+    if len < o.carry_len {
+        return stream::consume_carry(o, len, buf, marks, lengths, store);
+    }
+    stream::consume_packets(o, len, buf, marks, lengths, store)
 }
