@@ -72,6 +72,14 @@ module _ {b : Buffer} (g : Good b) where
       sym (rw (view-carry, drop-cut len (b .state .«carry_len») at (b .store), part)) in
       rw (left, rest, pasted ∙ paste-part out (drop at (b .store)) (take len (view b .carry)) 0 len bytes long, long)
 
+  -- the carry-over whole, and x behind it
+  pub carry-then : (x out : List ℕ) {out₁ out′ : List ℕ} → b .state .«carry_len» ≤ length out
+      → out₁ ≡ paste out 0 (drop (slots b * width b) (b .store)) (b .state .«carry_len»)
+      → out′ ≡ paste out₁ (b .state .«carry_len») x (length x)
+      → out′ ≡ paste out 0 (view b .carry ++ x) (length (view b .carry ++ x))
+  carry-then x out room first then =
+      then ∙ rw (first ∙ carry-pasted out) (paste-behind out (view b .carry) x 0 (b .state .«carry_len») (omega (arith, length-carry g)) room)
+
   -- "Otherwise the carry-over is taken whole, then held packets"
   pub packets-given : (w : Walk) (out : List ℕ) {k n from : ℕ} {rest : List ℕ} {said : Said (ℕ × ℕ × ℕ)} {out₁ out′ : List ℕ} {after : Buffer}
       → b .state .«carry_len» ≤ length out
@@ -84,9 +92,7 @@ module _ {b : Buffer} (g : Good b) where
       → out′ ≡ paste out₁ (b .state .«carry_len») (w .bytes) n
       → after ≡ taken b k rest
       → record { said = said; buffer = after; out = out′ } ≡ given b (carryAndPackets (view b) w) out
-  packets-given w out {n = n} {out′ = out′} room packets bytes split based say first then left =
+  packets-given w out {n = n} {out₁ = out₁} room packets bytes split based say first then left =
       let long : length (view b .carry ++ w .bytes) ≡ b .state .«carry_len» + n = rw (length-append, length-carry g, bytes) in
-      let behind : paste (paste out 0 (view b .carry) (length (view b .carry))) (b .state .«carry_len») (w .bytes) (length (w .bytes)) ≡ paste out 0 (view b .carry ++ w .bytes) (length (view b .carry ++ w .bytes)) =
-      paste-behind out (view b .carry) (w .bytes) 0 (b .state .«carry_len») (omega (arith, length-carry g)) room in
-      let whole : out′ ≡ paste out 0 (view b .carry ++ w .bytes) (length (view b .carry ++ w .bytes)) = then ∙ rw (first ∙ carry-pasted out, bytes) behind in
+      let whole = carry-then (w .bytes) out room first (then ∙ ap (paste out₁ (b .state .«carry_len») (w .bytes)) bytes) in
       rw (left, whole, say, packets, split, based, ← long)

@@ -8,5 +8,7 @@ pub mod Loops
 pub mod Outcome
 pub mod Kept
 pub mod Reading
+pub mod Payloads
 pub mod Taken
 pub mod Given
+pub mod Gathered

@@ -15,17 +15,10 @@ use Rattle.lists.proofs.Cut.{take-cut, drop-cut, paste-part}
 use Rattle.ordered_bytes.specs.Receiver.{Walk, walk, nothing}
 use Rattle.ordered_bytes.specs.Buffer.{Buffer, slots, width, wrap, slotAt, inSlot, view}
 use Rattle.ordered_bytes.proofs.WellFormed.{Good}
-use Rattle.ordered_bytes.proofs.Ring.{either, wrap-low, wrap-high, wrap-on}
+use Rattle.ordered_bytes.proofs.Ring.{either, wrap-on}
 use Rattle.ordered_bytes.proofs.Places.{front-at}
 use Rattle.ordered_bytes.proofs.View.{held-at, slot-below, slot-ends, store-long, length-in-slot, length-held}
 use Rattle.ordered_bytes.proofs.Walk.{walk-none, walk-split, walk-whole, walk-full}
-
--- the next slot is in the ring
-pub wrap-step : {n i : ℕ} → i < n → wrap n (i + 1) < n
-wrap-step {n} {i} h =
-    either n (i + 1)
-    (λ last. rw (wrap-high last) (omega arith))
-    (λ inner. rw (wrap-low inner) inner)
 
 -- what a marked slot holds is the place's payload
 pub held-in : (b : Buffer) {slot d : ℕ} → d < slots b → slot ≡ slotAt b d → getD (b .marks) slot false ≡ true
@@ -96,7 +89,7 @@ walking-starts {b} g room at buf =
 module _ {b : Buffer} (g : Good b) {room at : ℕ} {buf₀ buf : List ℕ} {slot packets given restAt rest : ℕ} (s : WalkState b room at buf₀ buf slot packets given restAt rest) where
   -- the slot is in the ring
   pub walking-in : packets < slots b → slot < slots b
-  walking-in more = rw (s .here) (slot-below g more)
+  walking-in more = rw (s .here) (slot-below g (s .few))
 
   -- one packet
   pub walking-turn : at + room ≤ length buf₀ → packets < slots b → given < room → getD (b .marks) slot false ≡ true → {buf′ : List ℕ} {part next : ℕ}

@@ -7,6 +7,7 @@ ghost use Rattle.ordered_bytes.specs.Calls.{createdSays, startedSays, ac
 use refusal::Refusal;
 
 mod front;
+mod pieces;
 mod slots;
 mod state;
 mod stream;
@@ -252,4 +253,60 @@ pub fn consume_unchecked(
         return stream::consume_carry(o, len, buf, marks, lengths, store);
     }
     stream::consume_packets(o, len, buf, marks, lengths, store)
+}
+
+// net/ordered_bytes.rs, OrderedBytes::consume_bytes. The pieces are copied to `buf` end to end, their lengths to `list`.
+pub fn consume_bytes(
+    o: OrderedBytes,
+    limit: usize,
+    buf: &mut [u8],
+    list: &mut [u32],
+    marks: &mut [bool],
+    lengths: &mut [u32],
+    store: &mut [u8],
+) -> ConsumedBytes
+    ensures { λ r. ⌜ record { said = consumedBytesSays (r .answer); buffer = bufferOf (r .state) (now (marks .exit)) (now (lengths .exit)) (now (store .exit)); out = now (buf .exit); list = now (list .exit) } ≡ consumingBytes (bufferOf o (now (marks .entry)) (now (lengths .entry)) (now (store .entry))) limit (now (buf .entry)) (now (list .entry)) ⌝ }
+{
+    if !well_formed(o, marks, lengths, store) {
+        return ConsumedBytes {
+            state: o,
+            answer: ConsumeBytesAnswer::Refused(Refusal::Malformed),
+        };
+    }
+    consume_bytes_unchecked(o, limit, buf, list, marks, lengths, store)
+}
+
+// The same without refusal 12's test.
+pub fn consume_bytes_unchecked(
+    o: OrderedBytes,
+    limit: usize,
+    buf: &mut [u8],
+    list: &mut [u32],
+    marks: &mut [bool],
+    lengths: &mut [u32],
+    store: &mut [u8],
+) -> ConsumedBytes
+    requires { ⌜ wellFormed (bufferOf o (now marks) (now lengths) (now store)) ≡ true ⌝ }
+    ensures { λ r. ⌜ record { said = consumedBytesSays (r .answer); buffer = bufferOf (r .state) (now (marks .exit)) (now (lengths .exit)) (now (store .exit)); out = now (buf .exit); list = now (list .exit) } ≡ consumingBytes (bufferOf o (now (marks .entry)) (now (lengths .entry)) (now (store .entry))) limit (now (buf .entry)) (now (list .entry)) ⌝ }
+{
+    let p = pieces::count_pieces(o, limit, marks, lengths, store);
+    if buf.len() < p.bytes {
+        return ConsumedBytes {
+            state: o,
+            answer: ConsumeBytesAnswer::Refused(Refusal::BufferShort),
+        };
+    }
+    if list.len() < p.pieces {
+        return ConsumedBytes {
+            state: o,
+            answer: ConsumeBytesAnswer::Refused(Refusal::BufferShort),
+        };
+    }
+    if p.pieces == 0 {
+        return ConsumedBytes {
+            state: o,
+            answer: ConsumeBytesAnswer::Refused(Refusal::Empty),
+        };
+    }
+    pieces::give_pieces(o, p, buf, list, marks, lengths, store)
 }

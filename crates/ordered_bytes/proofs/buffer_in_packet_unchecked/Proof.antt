@@ -2,6 +2,7 @@
 use Prim.Native.Nat.{_-_, _<_}
 use mathlib.Core.Path.{_≡_, _∙_, ap}
 use mathlib.Core.Bool.{false}
+use native.Mathlib.Nat.{le-of-lt}
 use native.Mathlib.Omega.{arith}
 use lib.ListN.{getD}
 use borrow.Author.Needs.{needs}
@@ -56,7 +57,7 @@ wrap-index-requires : tie.Need-wrap-index-requires
 wrap-index-requires c κs = let g = facts (start₃ c) in search needs
 
 slice-read-if4 : tie.Need-slice-read-if4
-slice-read-if4 c = let past = c .before .before in rw (c .before .wrap-index .ensures) (slot-below (facts (start₃ past)) (near past))
+slice-read-if4 c = let past = c .before .before in rw (c .before .wrap-index .ensures) (slot-below (facts (start₃ past)) (le-of-lt (near past)))
 
 returns-4 : tie.Need-returns-4
 unfolding accepting
@@ -79,7 +80,7 @@ store-in-requires c κs =
     let past = short .before .before .before .before .before in
     let s = start₃ past in
     let g = facts s in
-    let below = slot-below g (near past) in
+    let below = slot-below g (le-of-lt (near past)) in
     let slot = short .before .before .before .before .wrap-index .ensures in
     rw slot (omega (arith, g .shape .small-width), below, omega (arith, below, g .shape .lengths-n), omega (arith, store-long g, slot-ends g below, short .if5 .left))
 

@@ -7,7 +7,7 @@ use native.Mathlib.Omega.{arith}
 use lib.ListN.{length, length-set}
 use borrow.Author.Needs.{needs}
 use Rattle.ordered_bytes.specs.Buffer.{wrap, cleared}
-use Rattle.ordered_bytes.proofs.Loops.{wrap-step}
+use Rattle.ordered_bytes.proofs.Ring.{wrap-below}
 use Rattle.ordered_bytes.proofs.slots.take_slots.Statement.{statement}
 use Rattle.ordered_bytes.proofs.slots.take_slots.Tie as tie
 
@@ -47,7 +47,7 @@ loop-again c =
     let n = length (at .before .before .before .args .marks .now) in
     let next : c .wrap-index .result ≡ wrap n (at .loop .slot + 1) = c .wrap-index .ensures in
     let left : at .loop .left ≡ suc (at .loop .left - 1) = omega arith in
-    (rw next (wrap-step (inv .0)), simp length-set (inv .1), simp length-set (inv .2), rw next (rw left at (inv .3)), rw next (rw left at (inv .4)))
+    (rw next (wrap-below (inv .0) (omega arith)), simp length-set (inv .1), simp length-set (inv .2), rw next (rw left at (inv .3)), rw next (rw left at (inv .4)))
 
 same-length : tie.Need-same-length Inv-loop μ-loop
 same-length c = search needs

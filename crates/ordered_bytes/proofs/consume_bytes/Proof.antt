@@ -1,0 +1,63 @@
+-- `ordered_bytes::consume_bytes` meets its contract. Assumes nothing.
+use mathlib.Core.Path.{sym, _∙_}
+use borrow.Author.Needs.{needs}
+use borrow.Author.Tests.{not-true, not-false}
+use Rattle.ordered_bytes.specs.Calls.{consumingBytes}
+use Rattle.ordered_bytes.proofs.consume_bytes.Statement.{statement}
+use Rattle.ordered_bytes.proofs.consume_bytes.Tie as tie
+
+well-formed-requires : tie.Need-well-formed-requires
+well-formed-requires c κs = search needs
+
+same-length : tie.Need-same-length
+same-length c = search needs
+
+same-length-2 : tie.Need-same-length-2
+same-length-2 c = search needs
+
+same-length-3 : tie.Need-same-length-3
+same-length-3 c = search needs
+
+returns : tie.Need-returns
+unfolding consumingBytes
+returns c = simp (sym (c .before .well-formed .ensures) ∙ not-true _ (c .if1 .taken))
+
+consume-bytes-unchecked-requires : tie.Need-consume-bytes-unchecked-requires
+consume-bytes-unchecked-requires c κs =
+    let past = c .before .before .before .before .before in
+    sym (past .before .well-formed .ensures) ∙ not-false _ (past .if1 .left)
+
+same-length-4 : tie.Need-same-length-4
+same-length-4 c = search needs
+
+same-length-5 : tie.Need-same-length-5
+same-length-5 c = search needs
+
+same-length-6 : tie.Need-same-length-6
+same-length-6 c = search needs
+
+same-length-7 : tie.Need-same-length-7
+same-length-7 c = search needs
+
+same-length-8 : tie.Need-same-length-8
+same-length-8 c = search needs
+
+returns-2 : tie.Need-returns-2
+returns-2 c = search needs
+
+pub consume-bytes-spec : {M : Type 1} → statement M
+consume-bytes-spec =
+    tie.close
+    (tie.spec
+    well-formed-requires
+    same-length
+    same-length-2
+    same-length-3
+    returns
+    consume-bytes-unchecked-requires
+    same-length-4
+    same-length-5
+    same-length-6
+    same-length-7
+    same-length-8
+    returns-2)

@@ -1,0 +1,70 @@
+-- `ordered_bytes::pieces::copy_pieces` meets its contract. Assumes nothing.
+use mathlib.Core.Path.{_≡_}
+use native.Mathlib.Omega.{arith}
+use borrow.Author.Needs.{needs}
+use Rattle.ordered_bytes.specs.Receiver.{payloads, join}
+use Rattle.ordered_bytes.specs.Buffer.{Buffer, bufferOf, view}
+use Rattle.ordered_bytes.proofs.WellFormed.{Good, good}
+use Rattle.ordered_bytes.proofs.View.{length-carry}
+use Rattle.ordered_bytes.proofs.Given.{carry-in, carry-then}
+use Rattle.ordered_bytes.proofs.Gathered.{cells-written}
+use Rattle.ordered_bytes.proofs.pieces.copy_pieces.Statement.{statement}
+use Rattle.ordered_bytes.proofs.pieces.copy_pieces.Tie as tie
+
+abbrev entry : tie.Start → Buffer
+entry s = bufferOf (s .args .o) (s .args .marks .now) (s .args .lengths .now) (s .args .store .now)
+
+facts : (s : tie.Start) → Good (entry s)
+facts s = good (s .pre .0 .0)
+
+mul-copy-part : tie.Need-mul-copy-part
+mul-copy-part c = let s = c .before .before .before .before .before .before in omega (arith, carry-in (facts s), s .good)
+
+copy-part-requires : tie.Need-copy-part-requires
+copy-part-requires c κs =
+    let s = c .before .before .before .before .before .before .before in
+    let g = facts s in
+    (omega (arith, g .carry-w, g .shape .small-width), omega (arith, carry-in g), omega (arith, s .pre .1 .0))
+
+put-carry-length-requires : tie.Need-put-carry-length-requires
+put-carry-length-requires c κs =
+    let s = c .before .before .before .before .before .before .before .before .before .before .before in
+    let g = facts s in
+    (omega (arith, g .carry-w, g .shape .small-width), omega (arith, s .pre .1 .1))
+
+copy-payloads-requires : tie.Need-copy-payloads-requires
+copy-payloads-requires c κs =
+    let put = c .before .before .before .before in
+    let s = put .before .before .before .before .before .before .before .before .before .before .before .before in
+    (s .pre .0, (omega (arith, s .pre .1 .0), omega (arith, put .put-carry-length .ensures .0, s .pre .1 .1)))
+
+same-length : tie.Need-same-length
+same-length c = search needs
+
+same-length-2 : tie.Need-same-length-2
+same-length-2 c = search needs
+
+returns : tie.Need-returns
+returns c =
+    let last = c .before .before .before .before in
+    let put = last .before .before .before .before .before in
+    let copied = put .before .before .before .before in
+    let s = copied .before .before .before .before .before .before .before .before in
+    let g = facts s in
+    let ps = payloads (s .args .packets) (view (entry s) .held) in (
+      carry-then g (join ps) (s .args .buf .now) (omega (arith, s .pre .1 .0)) (copied .copy-part .ensures) (last .copy-payloads .ensures .0),
+      cells-written (view (entry s) .carry) (s .args .list .now) ps (length-carry g) (put .put-carry-length .ensures .0) (s .pre .0 .1)
+          (omega (arith, put .put-carry-length .ensures .0, s .pre .1 .1)) (put .put-carry-length .ensures .1) (last .copy-payloads .ensures .1),
+    )
+
+pub copy-pieces-spec : {M : Type 1} → statement M
+copy-pieces-spec =
+    tie.close
+    (tie.spec
+    mul-copy-part
+    copy-part-requires
+    put-carry-length-requires
+    copy-payloads-requires
+    same-length
+    same-length-2
+    returns)

@@ -1,0 +1,201 @@
+// `consume_bytes`: carry-over and held packets as pieces. They are counted first, so that 10 and 8 are decided before anything moves.
+// Ports `consume_bytes` of net/ordered_bytes.rs; document 01, "From packets to the reader".
+ghost use mathlib.Core.Path.{_≡_};
+ghost use mathlib.Core.Bool.{true, cond};
+ghost use mathlib.Core.List.{[], map, _++_};
+ghost use Prim.Native.Nat.{_+_, _-_, _≤_};
+ghost use lib.ListN.{length, set};
+ghost use lib.Seq.{paste};
+ghost use lib.Dec.{eqb};
+ghost use Rattle.refusal.specs.Said.{answers};
+ghost use Rattle.ordered_bytes.specs.Receiver.{payloads, join, carryPiece, takenPayloads, pieces, base};
+ghost use Rattle.ordered_bytes.specs.Buffer.{bufferOf, view, wellFormed, taken};
+ghost use Rattle.ordered_bytes.specs.Calls.{PieceConsumption, consumedBytesSays};
+use crate::ConsumeBytesAnswer;
+use crate::ConsumeResult;
+use crate::ConsumedBytes;
+use crate::OrderedBytes;
+use crate::front;
+use crate::slots;
+
+// Payloads of held packets from the front on, and their bytes.
+struct Payloads {
+    packets: usize,
+    bytes: usize,
+}
+
+// What a read takes: packets, pieces and bytes.
+pub struct Pieces {
+    pub packets: usize,
+    pub pieces: usize,
+    pub bytes: usize,
+}
+
+// "carry-over is one piece", and a length of 0 means none.
+fn carry_pieces(carry_len: usize) -> usize
+    ensures { λ r. ⌜ r ≡ cond (eqb «carry_len» 0) 0 1 ⌝ }
+{
+    if carry_len == 0 { 0 } else { 1 }
+}
+
+fn saturating_sub(a: usize, b: usize) -> usize
+    ensures { λ r. ⌜ r ≡ a - b ⌝ }
+{
+    if a < b { 0 } else { a - b }
+}
+
+fn count_payloads(
+    o: OrderedBytes,
+    most: usize,
+    marks: &[bool],
+    lengths: &[u32],
+    store: &[u8],
+) -> Payloads
+    requires { ⌜ wellFormed (bufferOf o (now marks) (now lengths) (now store)) ≡ true ⌝ }
+    ensures { λ r. ⌜ r .packets ≡ length (payloads most (view (bufferOf o (now (marks .entry)) (now (lengths .entry)) (now (store .entry))) .held)) ⌝ }
+    ensures { λ r. ⌜ r .bytes ≡ length (join (payloads most (view (bufferOf o (now (marks .entry)) (now (lengths .entry)) (now (store .entry))) .held))) ⌝ }
+    ensures { λ r. ⌜ r .bytes ≤ 131070000 ⌝ }
+{
+    let n = marks.len();
+    let mut slot = o.front_slot;
+    let mut packets = 0;
+    let mut bytes = 0;
+    while packets < n && packets < most && marks[slot] {
+        bytes += lengths[slot] as usize;
+        packets += 1;
+        slot = slots::wrap_index(n, slot, 1);
+    }
+    Payloads {
+        packets: packets,
+        bytes: bytes,
+    }
+}
+
+// "carry-over is one piece, then held packets while pieces are fewer than the limit".
+pub fn count_pieces(
+    o: OrderedBytes,
+    limit: usize,
+    marks: &[bool],
+    lengths: &[u32],
+    store: &[u8],
+) -> Pieces
+    requires { ⌜ wellFormed (bufferOf o (now marks) (now lengths) (now store)) ≡ true ⌝ }
+    ensures { λ r. ⌜ r .packets ≡ length (takenPayloads (view (bufferOf o (now (marks .entry)) (now (lengths .entry)) (now (store .entry)))) limit) ⌝ }
+    ensures { λ r. ⌜ r .pieces ≡ length (pieces (view (bufferOf o (now (marks .entry)) (now (lengths .entry)) (now (store .entry)))) limit) ⌝ }
+    ensures { λ r. ⌜ r .bytes ≡ length (join (pieces (view (bufferOf o (now (marks .entry)) (now (lengths .entry)) (now (store .entry)))) limit)) ⌝ }
+{
+    let first = carry_pieces(o.carry_len);
+    let p = count_payloads(o, saturating_sub(limit, first), marks, lengths, store);
+    Pieces {
+        packets: p.packets,
+        pieces: first + p.packets,
+        bytes: o.carry_len + p.bytes,
+    }
+}
+
+// Copies the payloads of packets held from the front on to `buf` from `at` on, and their lengths to `list` from `first` on.
+fn copy_payloads(
+    o: OrderedBytes,
+    packets: usize,
+    buf: &mut [u8],
+    at: usize,
+    list: &mut [u32],
+    first: usize,
+    marks: &[bool],
+    lengths: &[u32],
+    store: &[u8],
+)
+    requires { ⌜ (wellFormed (bufferOf o (now marks) (now lengths) (now store)) ≡ true) × (length (payloads packets (view (bufferOf o (now marks) (now lengths) (now store)) .held)) ≡ packets) ⌝ }
+    requires { ⌜ (at + length (join (payloads packets (view (bufferOf o (now marks) (now lengths) (now store)) .held))) ≤ length (now buf)) × (first + packets ≤ length (now list)) ⌝ }
+    ensures { λ _. ⌜ now (buf .exit) ≡ paste (now (buf .entry)) at (join (payloads packets (view (bufferOf o (now (marks .entry)) (now (lengths .entry)) (now (store .entry))) .held))) (length (join (payloads packets (view (bufferOf o (now (marks .entry)) (now (lengths .entry)) (now (store .entry))) .held)))) ⌝ }
+    ensures { λ _. ⌜ now (list .exit) ≡ paste (now (list .entry)) first (map length (payloads packets (view (bufferOf o (now (marks .entry)) (now (lengths .entry)) (now (store .entry))) .held))) packets ⌝ }
+{
+    let n = marks.len();
+    let mut slot = o.front_slot;
+    let mut given = at;
+    let mut done = 0;
+    while done < packets {
+        let size = lengths[slot];
+        parts::copy_part(store, slot * o.slot_width, size as usize, buf, given);
+        list[first + done] = size;
+        given += size as usize;
+        done += 1;
+        slot = slots::wrap_index(n, slot, 1);
+    }
+}
+
+// The carry-over's length, where there is one: how many cells of `list` it took.
+fn put_carry_length(carry_len: usize, list: &mut [u32]) -> usize
+    requires { ⌜ («carry_len» ≤ 65535) × (cond (eqb «carry_len» 0) 0 1 ≤ length (now list)) ⌝ }
+    ensures { λ r. ⌜ r ≡ cond (eqb «carry_len» 0) 0 1 ⌝ }
+    ensures { λ r. ⌜ now (list .exit) ≡ cond (eqb «carry_len» 0) (now (list .entry)) (set (now (list .entry)) 0 «carry_len») ⌝ }
+{
+    if carry_len == 0 {
+        return 0;
+    }
+    list[0] = carry_len as u32;
+    1
+}
+
+// Copies the carry-over and the payloads of `packets` held packets, and the lengths of all pieces.
+pub fn copy_pieces(
+    o: OrderedBytes,
+    packets: usize,
+    buf: &mut [u8],
+    list: &mut [u32],
+    marks: &[bool],
+    lengths: &[u32],
+    store: &[u8],
+)
+    requires { ⌜ (wellFormed (bufferOf o (now marks) (now lengths) (now store)) ≡ true) × (length (payloads packets (view (bufferOf o (now marks) (now lengths) (now store)) .held)) ≡ packets) ⌝ }
+    requires { ⌜ (o .«carry_len» + length (join (payloads packets (view (bufferOf o (now marks) (now lengths) (now store)) .held))) ≤ length (now buf)) × (cond (eqb (o .«carry_len») 0) 0 1 + packets ≤ length (now list)) ⌝ }
+    ensures { λ _. ⌜ now (buf .exit) ≡ paste (now (buf .entry)) 0 (view (bufferOf o (now (marks .entry)) (now (lengths .entry)) (now (store .entry))) .carry ++ join (payloads packets (view (bufferOf o (now (marks .entry)) (now (lengths .entry)) (now (store .entry))) .held))) (length (view (bufferOf o (now (marks .entry)) (now (lengths .entry)) (now (store .entry))) .carry ++ join (payloads packets (view (bufferOf o (now (marks .entry)) (now (lengths .entry)) (now (store .entry))) .held)))) ⌝ }
+    ensures { λ _. ⌜ now (list .exit) ≡ paste (now (list .entry)) 0 (map length (carryPiece (view (bufferOf o (now (marks .entry)) (now (lengths .entry)) (now (store .entry))) .carry) ++ payloads packets (view (bufferOf o (now (marks .entry)) (now (lengths .entry)) (now (store .entry))) .held))) (length (carryPiece (view (bufferOf o (now (marks .entry)) (now (lengths .entry)) (now (store .entry))) .carry) ++ payloads packets (view (bufferOf o (now (marks .entry)) (now (lengths .entry)) (now (store .entry))) .held))) ⌝ }
+{
+    let carry_len = o.carry_len;
+    parts::copy_part(store, marks.len() * o.slot_width, carry_len, buf, 0);
+    let first = put_carry_length(carry_len, list);
+    copy_payloads(
+        o,
+        packets,
+        buf,
+        carry_len,
+        list,
+        first,
+        marks,
+        lengths,
+        store,
+    );
+}
+
+// Takes what was counted, with room for it: no refusal is left.
+pub fn give_pieces(
+    o: OrderedBytes,
+    p: Pieces,
+    buf: &mut [u8],
+    list: &mut [u32],
+    marks: &mut [bool],
+    lengths: &mut [u32],
+    store: &mut [u8],
+) -> ConsumedBytes
+    requires { ⌜ wellFormed (bufferOf o (now marks) (now lengths) (now store)) ≡ true ⌝ }
+    requires { ⌜ (length (payloads (p .packets) (view (bufferOf o (now marks) (now lengths) (now store)) .held)) ≡ p .packets) × (p .bytes ≤ length (now buf)) × (p .pieces ≤ length (now list)) ⌝ }
+    requires { ⌜ p .pieces ≡ length (carryPiece (view (bufferOf o (now marks) (now lengths) (now store)) .carry) ++ payloads (p .packets) (view (bufferOf o (now marks) (now lengths) (now store)) .held)) ⌝ }
+    requires { ⌜ p .bytes ≡ length (view (bufferOf o (now marks) (now lengths) (now store)) .carry ++ join (payloads (p .packets) (view (bufferOf o (now marks) (now lengths) (now store)) .held))) ⌝ }
+    ensures { λ r. ⌜ _≡_ {A = PieceConsumption} (record { said = consumedBytesSays (r .answer); buffer = bufferOf (r .state) (now (marks .exit)) (now (lengths .exit)) (now (store .exit)); out = now (buf .exit); list = now (list .exit) }) (record { said = answers ((p .packets, base (view (bufferOf o (now (marks .entry)) (now (lengths .entry)) (now (store .entry)))), p .bytes), p .pieces); buffer = taken (bufferOf o (now (marks .entry)) (now (lengths .entry)) (now (store .entry))) (p .packets) []; out = paste (now (buf .entry)) 0 (view (bufferOf o (now (marks .entry)) (now (lengths .entry)) (now (store .entry))) .carry ++ join (payloads (p .packets) (view (bufferOf o (now (marks .entry)) (now (lengths .entry)) (now (store .entry))) .held))) (p .bytes); list = paste (now (list .entry)) 0 (map length (carryPiece (view (bufferOf o (now (marks .entry)) (now (lengths .entry)) (now (store .entry))) .carry) ++ payloads (p .packets) (view (bufferOf o (now (marks .entry)) (now (lengths .entry)) (now (store .entry))) .held))) (p .pieces) }) ⌝ }
+{
+    let base = front::base_packet_number(o, marks);
+    copy_pieces(o, p.packets, buf, list, marks, lengths, store);
+    let state = front::take_packets(o, p.packets, 0, 0, marks, lengths, store);
+    ConsumedBytes {
+        state: state,
+        answer: ConsumeBytesAnswer::Given(
+            ConsumeResult {
+                num_packets_consumed: p.packets,
+                base_packet_number: base,
+                bytes_consumed: p.bytes as u64,
+            },
+            p.pieces,
+        ),
+    }
+}
