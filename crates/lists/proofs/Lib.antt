@@ -8,3 +8,4 @@ pub mod Part
 pub mod Fill
 pub mod Pad
 pub mod Cut
+pub mod Flatten

@@ -3,19 +3,19 @@
 use Prim.Native.Nat.{ℕ, suc, _+_, _-_, _≤_}
 use mathlib.Core.Path.{_≡_, refl, sym, ap, _∙_}
 use mathlib.Core.Bool.{Bool, true, false, cond}
-use mathlib.Core.List.{List, [], _∷_, _++_, map}
+use mathlib.Core.List.{List, [], _∷_, _++_, map, flatten}
 use native.Mathlib.Omega.{arith}
 use lib.ListN.{length, set, length-append}
 use lib.Seq.{paste}
 use lib.Dec.{eqb, eqb·suc-zero}
 use Rattle.refusal.specs.Said.{answers}
 use Rattle.lists.proofs.Cut.{paste-cons}
-use Rattle.ordered_bytes.specs.Receiver.{payloads, join, carryPiece, takenPayloads, pieces, base, consumedPieces}
+use Rattle.ordered_bytes.specs.Receiver.{payloads, carryPiece, takenPayloads, pieces, base, consumedPieces}
 use Rattle.ordered_bytes.specs.Buffer.{Buffer, slots, view, taken}
 use Rattle.ordered_bytes.specs.Calls.{PieceConsumption}
 use Rattle.ordered_bytes.proofs.WellFormed.{Good}
 use Rattle.ordered_bytes.proofs.View.{length-carry}
-use Rattle.ordered_bytes.proofs.Walk.{payloads-again, join-pieces}
+use Rattle.ordered_bytes.proofs.Walk.{payloads-again, flatten-pieces}
 
 -- "carry-over is one piece", and "a carry-over length of 0 means none"
 pub carry-count : (c : List ℕ) → length (carryPiece c) ≡ cond (eqb (length c) 0) 0 1
@@ -49,15 +49,15 @@ module _ {b : Buffer} (g : Good b) (limit : ℕ) where
       → first ≡ cond (eqb (b .state .«carry_len») 0) 0 1
       → most ≡ limit - first
       → packets ≡ length (payloads most (view b .held))
-      → bytes ≡ length (join (payloads most (view b .held)))
+      → bytes ≡ length (flatten (payloads most (view b .held)))
       → (packets ≡ length (takenPayloads (view b) limit))
-      × ((first + packets ≡ length (pieces (view b) limit)) × (b .state .«carry_len» + bytes ≡ length (join (pieces (view b) limit))))
+      × ((first + packets ≡ length (pieces (view b) limit)) × (b .state .«carry_len» + bytes ≡ length (flatten (pieces (view b) limit))))
   pieces-counted {first} {most} one rest counted summed =
       let same : first ≡ length (carryPiece (view b .carry)) = one ∙ sym carried in
       let all : payloads most (view b .held) ≡ takenPayloads (view b) limit = rw (rest, same) in
       let packets = rw all at counted in
       let bytes = rw all at summed in
-      (packets, (rw (length-append, ← packets, ← same), rw (join-pieces (view b) limit, length-append, length-carry g, ← bytes)))
+      (packets, (rw (length-append, ← packets, ← same), rw (flatten-pieces (view b) limit, length-append, length-carry g, ← bytes)))
 
 module _ (b : Buffer) (limit : ℕ) {k : ℕ} (packets : k ≡ length (takenPayloads (view b) limit)) where
   -- asked for as many as were counted, they are the same
@@ -67,8 +67,8 @@ module _ (b : Buffer) (limit : ℕ) {k : ℕ} (packets : k ≡ length (takenPayl
   pub again-length : length (payloads k (view b .held)) ≡ k
   again-length = ap length again ∙ sym packets
 
-  pub again-bytes : view b .carry ++ join (payloads k (view b .held)) ≡ join (pieces (view b) limit)
-  again-bytes = rw (again, join-pieces (view b) limit)
+  pub again-bytes : view b .carry ++ flatten (payloads k (view b .held)) ≡ flatten (pieces (view b) limit)
+  again-bytes = rw (again, flatten-pieces (view b) limit)
 
   pub again-pieces : carryPiece (view b .carry) ++ payloads k (view b .held) ≡ pieces (view b) limit
   again-pieces = rw again
@@ -88,11 +88,11 @@ pieces-given b out list x ps based bytes pieces left gave cells = rw (based, lef
 -- those are the definition's
 pub gathered : (b : Buffer) (limit : ℕ) {k n m : ℕ}
     → k ≡ length (takenPayloads (view b) limit)
-    → n ≡ length (join (pieces (view b) limit))
+    → n ≡ length (flatten (pieces (view b) limit))
     → m ≡ length (pieces (view b) limit)
     → (out list : List ℕ) → let ps = payloads k (view b .held) in let r = consumedPieces (view b) limit in
     _≡_ {A = PieceConsumption}
-    (record { said = answers ((k, base (view b), n), m); buffer = taken b k []; out = paste out 0 (view b .carry ++ join ps) n; list = paste list 0 (map length (carryPiece (view b .carry) ++ ps)) m })
+    (record { said = answers ((k, base (view b), n), m); buffer = taken b k []; out = paste out 0 (view b .carry ++ flatten ps) n; list = paste list 0 (map length (carryPiece (view b .carry) ++ ps)) m })
     (record {
       said = answers ((r .packets, r .base, length (r .bytes)), length (pieces (view b) limit));
       buffer = taken b (r .packets) (r .carry);

@@ -5,14 +5,14 @@ use mathlib.Core.Path.{_≡_, refl, sym, ap, _∙_}
 use mathlib.Core.Logic.{_⊎_, inl, inr, _≢_}
 use mathlib.Core.Bool.{Bool, true, false, not}
 use mathlib.Core.Option.{none}
-use mathlib.Core.List.{List, _∷_, map}
+use mathlib.Core.List.{List, _∷_, map, flatten}
 use lib.ListN.{length}
 use lib.Seq.{paste}
 use lib.Dec.{ltb, eqb}
 use borrow.Author.Tests.{ltb-true, ltb-false, leb-false, eqb-true, eqb-false, not-true, not-false}
 use Rattle.refusal.specs.Said.{answers, refuses}
 use Rattle.refusal.proofs.Checks.{Failed, Checked, passes, fails, checked}
-use Rattle.ordered_bytes.specs.Receiver.{largest, isHeld, placeAt, acceptChecks, consumed, consumedPieces, pieces, join, anyHeld}
+use Rattle.ordered_bytes.specs.Receiver.{largest, isHeld, placeAt, acceptChecks, consumed, consumedPieces, pieces, anyHeld}
 use Rattle.ordered_bytes.specs.Buffer.{Buffer, slots, width, slotAt, view, wellFormed, shapeFits, stored, taken}
 use Rattle.ordered_bytes.specs.Calls.{creating, starting, Acceptance, accepting, given, consuming, PieceConsumption, consumingBytes}
 use Rattle.ordered_bytes.proofs.WellFormed.{Shaped, shaped, Good, good}
@@ -123,19 +123,19 @@ givenPieces b limit out list =
 module _ (b : Buffer) (limit : ℕ) (out list : List ℕ) where
   pub data ConsumingBytes : Type 0 where
     malformed : wellFormed b ≡ false → consumingBytes b limit out list ≡ record { said = refuses 12; buffer = b; out = out; list = list } → ConsumingBytes
-    short : Good b → (length out < length (join (pieces (view b) limit))) ⊎ (length list < length (pieces (view b) limit))
+    short : Good b → (length out < length (flatten (pieces (view b) limit))) ⊎ (length list < length (pieces (view b) limit))
         → consumingBytes b limit out list ≡ record { said = refuses 10; buffer = b; out = out; list = list } → ConsumingBytes
     empty : Good b → length (pieces (view b) limit) ≡ 0
         → consumingBytes b limit out list ≡ record { said = refuses 8; buffer = b; out = out; list = list } → ConsumingBytes
-    reads : Good b → length (join (pieces (view b) limit)) ≤ length out → length (pieces (view b) limit) ≤ length list → length (pieces (view b) limit) ≢ 0
+    reads : Good b → length (flatten (pieces (view b) limit)) ≤ length out → length (pieces (view b) limit) ≤ length list → length (pieces (view b) limit) ≢ 0
         → consumingBytes b limit out list ≡ givenPieces b limit out list → ConsumingBytes
 
   pub consume-bytes-ways : ConsumingBytes
   unfolding consumingBytes
   consume-bytes-ways =
-      by (wellFormed b) (ltb (length out) (length (join (pieces (view b) limit)))) (ltb (length list) (length (pieces (view b) limit))) (eqb (length (pieces (view b) limit)) 0) refl refl refl refl
+      by (wellFormed b) (ltb (length out) (length (flatten (pieces (view b) limit)))) (ltb (length list) (length (pieces (view b) limit))) (eqb (length (pieces (view b) limit)) 0) refl refl refl refl
     where
-      by : (well less fewer none : Bool) → wellFormed b ≡ well → ltb (length out) (length (join (pieces (view b) limit))) ≡ less
+      by : (well less fewer none : Bool) → wellFormed b ≡ well → ltb (length out) (length (flatten (pieces (view b) limit))) ≡ less
           → ltb (length list) (length (pieces (view b) limit)) ≡ fewer → eqb (length (pieces (view b) limit)) 0 ≡ none → ConsumingBytes
       by false less fewer zero e f g h = malformed e (rw e)
       by true true fewer zero e f g h = short (good e) (inl (ltb-true _ _ f)) (rw (e, f))

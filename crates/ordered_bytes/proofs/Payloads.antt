@@ -4,14 +4,15 @@ use Prim.Native.Nat.{ℕ, zero, suc, _+_, _-_, _*_, _≤_, _<_, zero-le}
 use mathlib.Core.Path.{_≡_, refl, sym, ap, _∙_}
 use mathlib.Core.Bool.{Bool, true, false}
 use mathlib.Core.Logic.{_⊎_, inl, inr}
-use mathlib.Core.List.{List, [], _∷_, _++_, map}
+use mathlib.Core.List.{List, [], _∷_, _++_, map, flatten}
 use native.Mathlib.Omega.{arith}
 use native.Mathlib.Nat.{sub-zero, zero-add, add-zero}
 use lib.ListN.{length, take, drop, set, getD, length-append, length-set, drop-of-length-le}
 use lib.Seq.{paste, paste-zero, length-paste}
 use Rattle.lists.proofs.Paste.{paste-behind}
+use Rattle.lists.proofs.Flatten.{flatten-nil, flatten-cons}
 use Rattle.lists.proofs.Cut.{paste-part, paste-cons}
-use Rattle.ordered_bytes.specs.Receiver.{payloads, join}
+use Rattle.ordered_bytes.specs.Receiver.{payloads}
 use Rattle.ordered_bytes.specs.Buffer.{Buffer, slots, width, wrap, slotAt, view}
 use Rattle.ordered_bytes.proofs.WellFormed.{Good}
 use Rattle.ordered_bytes.proofs.Ring.{wrap-on}
@@ -19,14 +20,6 @@ use Rattle.ordered_bytes.proofs.View.{slot-below, length-in-slot, lengt
 use Rattle.ordered_bytes.proofs.Walk.{payloads-none, payloads-held, payloads-full, payloads-most}
 use Rattle.ordered_bytes.proofs.Places.{front-at}
 use Rattle.ordered_bytes.proofs.Loops.{held-in, free-in}
-
-join-first : (p : List ℕ) (ps : List (List ℕ)) → join (p ∷ ps) ≡ p ++ join ps
-unfolding join
-join-first p ps = refl
-
-join-none : join [] ≡ []
-unfolding join
-join-none = refl
 
 -- what is still to take of `most` payloads where k are taken
 abbrev pub remaining : Buffer → ℕ → ℕ → List (List ℕ)
@@ -51,7 +44,7 @@ pub record Counting (b : Buffer) (most slot packets bytes : ℕ) (left all : Lis
   pub asked : packets ≤ most
   pub here : slot ≡ slotAt b packets
   pub counted : packets + length left ≡ length all
-  pub counted-bytes : bytes + length (join left) ≡ length (join all)
+  pub counted-bytes : bytes + length (flatten left) ≡ length (flatten all)
   pub small : bytes ≤ 65535 * packets
 
 abbrev pub CountState : Buffer → ℕ → ℕ → ℕ → ℕ → Type 0
@@ -78,7 +71,7 @@ module _ {b : Buffer} (g : Good b) {most slot packets bytes : ℕ} (s : CountSta
       let turn = next b more asked (s .here) mark in
       let long = length-in-slot g counting-in in
       let counted = rw turn at (s .counted) in
-      let counted-bytes = rw (turn, join-first, length-append, long) at (s .counted-bytes) in
+      let counted-bytes = rw (turn, flatten-cons, length-append, long) at (s .counted-bytes) in
       record {
         few = omega arith;
         asked = omega arith;
@@ -95,10 +88,10 @@ module _ {b : Buffer} (g : Good b) {most slot packets bytes : ℕ} (s : CountSta
   counting-ends (inr (inl full)) = let none-left : most - packets ≡ 0 = omega arith in rw none-left (payloads-full (drop packets (view b .held)))
   counting-ends (inr (inr free)) = payloads-none (view b .held) packets (most - packets) (free-in b (free .0) (s .here) (free .1))
 
-  pub counting-done : remaining b most packets ≡ [] → let all = payloads most (view b .held) in (packets ≡ length all) × ((bytes ≡ length (join all)) × (bytes ≤ 131070000))
+  pub counting-done : remaining b most packets ≡ [] → let all = payloads most (view b .held) in (packets ≡ length all) × ((bytes ≡ length (flatten all)) × (bytes ≤ 131070000))
   counting-done done =
       let counted = rw done at (s .counted) in
-      let counted-bytes = rw (done, join-none) at (s .counted-bytes) in
+      let counted-bytes = rw (done, flatten-nil) at (s .counted-bytes) in
       (omega arith, (omega arith, omega (arith, s .few, s .small, g .shape .few-slots)))
 
 -- ---- copying
@@ -107,8 +100,8 @@ pub record Copying (b : Buffer) (packets at first : ℕ) (buf₀ buf list₀ lis
   pub few : done ≤ packets
   pub here : slot ≡ slotAt b done
   pub were : done + length left ≡ packets
-  pub counted-bytes : given + length (join left) ≡ at + length (join all)
-  pub out : paste buf given (join left) (length (join left)) ≡ paste buf₀ at (join all) (length (join all))
+  pub counted-bytes : given + length (flatten left) ≡ at + length (flatten all)
+  pub out : paste buf given (flatten left) (length (flatten left)) ≡ paste buf₀ at (flatten all) (length (flatten all))
   pub long : length buf ≡ length buf₀
   pub cells : paste list (first + done) (map length left) (length left) ≡ paste list₀ first (map length all) packets
   pub list-long : length list ≡ length list₀
@@ -133,7 +126,7 @@ copying-starts g packets at first buf list were =
 
 module _ {b : Buffer} (g : Good b) {packets at first : ℕ} {buf₀ buf list₀ list : List ℕ} {slot given done : ℕ}
     (all-held : length (payloads packets (view b .held)) ≡ packets)
-    (fits : at + length (join (payloads packets (view b .held))) ≤ length buf₀) (room : first + packets ≤ length list₀)
+    (fits : at + length (flatten (payloads packets (view b .held))) ≤ length buf₀) (room : first + packets ≤ length list₀)
     (s : CopyState b packets at first buf₀ buf list₀ list slot given done) (more : done < packets) where
   pub copying-below : done < slots b
   copying-below = omega (arith, payloads-most packets (view b .held) .1, length-held b)
@@ -148,8 +141,8 @@ module _ {b : Buffer} (g : Good b) {packets at first : ℕ} {buf₀ buf list₀ 
   turn : remaining b packets done ≡ payload b slot ∷ remaining b packets (done + 1)
   turn = next b copying-below more (s .here) (marked (getD (b .marks) slot false) refl)
 
-  size-fits : given + getD (b .lengths) slot 0 + length (join (remaining b packets (done + 1))) ≡ at + length (join (payloads packets (view b .held)))
-  size-fits = let bytes = rw (turn, join-first, length-append, length-in-slot g copying-in) at (s .counted-bytes) in omega arith
+  size-fits : given + getD (b .lengths) slot 0 + length (flatten (remaining b packets (done + 1))) ≡ at + length (flatten (payloads packets (view b .held)))
+  size-fits = let bytes = rw (turn, flatten-cons, length-append, length-in-slot g copying-in) at (s .counted-bytes) in omega arith
 
   -- the payload has room in the output
   pub copying-fits : given + getD (b .lengths) slot 0 ≤ length buf
@@ -174,7 +167,7 @@ module _ {b : Buffer} (g : Good b) {packets at first : ℕ} {buf₀ buf list₀ 
         here = moved ∙ rw (s .here) (wrap-on (g .front-n) done 1 (omega (arith, copying-below)));
         were = omega arith;
         counted-bytes = size-fits;
-        out = rw pasted (paste-behind buf p (join v) given (given + size) (omega arith) copying-fits) ∙ rw (turn, join-first) at (s .out);
+        out = rw pasted (paste-behind buf p (flatten v) given (given + size) (omega arith) copying-fits) ∙ rw (turn, flatten-cons) at (s .out);
         long = ap length pasted ∙ length-paste buf given p (length p) (omega (arith, copying-fits)) (omega arith) ∙ s .long;
         cells = cell ∙ rw (turn, long) at (s .cells);
         list-long = length-set list (first + done) size ∙ s .list-long;
@@ -183,8 +176,8 @@ module _ {b : Buffer} (g : Good b) {packets at first : ℕ} {buf₀ buf list₀ 
 -- all copied
 pub copying-done : {b : Buffer} {packets at first : ℕ} {buf₀ buf list₀ list : List ℕ} {slot given done : ℕ}
     → CopyState b packets at first buf₀ buf list₀ list slot given done → packets ≤ done → let all = payloads packets (view b .held) in
-    (buf ≡ paste buf₀ at (join all) (length (join all))) × (list ≡ paste list₀ first (map length all) packets)
+    (buf ≡ paste buf₀ at (flatten all) (length (flatten all))) × (list ≡ paste list₀ first (map length all) packets)
 copying-done {b} {packets} {first = first} {buf = buf} {list = list} {given = given} {done = done} s end =
     let none-left : packets - done ≡ 0 = omega arith in
     let nothing : remaining b packets done ≡ [] = rw none-left (payloads-full (drop done (view b .held))) in
-    (paste-zero buf given [] ∙ rw (nothing, join-none) at (s .out), paste-zero list (first + done) [] ∙ rw nothing at (s .cells))
+    (paste-zero buf given [] ∙ rw (nothing, flatten-nil) at (s .out), paste-zero list (first + done) [] ∙ rw nothing at (s .cells))

@@ -6,7 +6,7 @@ use mathlib.Core.Path.{_≡_, refl, sym, ap, _∙_}
 use mathlib.Core.Logic.{_≢_}
 use mathlib.Core.Bool.{Bool, true, false, cond}
 use mathlib.Core.Option.{Option, none, some}
-use mathlib.Core.List.{List, [], _∷_, _++_}
+use mathlib.Core.List.{List, [], _∷_, _++_, flatten}
 use native.Mathlib.Omega.{arith}
 use native.Mathlib.Nat.{add-zero, zero-add}
 use lib.ListN.{length, take, drop, replicate, length-append}
@@ -14,7 +14,7 @@ use lib.Seq.{paste, take-length, drop-append-seam}
 use Rattle.refusal.specs.Said.{Said, answers, refuses}
 use Rattle.lists.proofs.Part.{part-pasted}
 use Rattle.lists.proofs.Pad.{getD-moved}
-use Rattle.ordered_bytes.specs.Receiver.{Read, placeAt, accepted, moved, base, payloads, join, consumed, consumedPieces}
+use Rattle.ordered_bytes.specs.Receiver.{Read, placeAt, accepted, moved, base, payloads, consumed, consumedPieces}
 use Rattle.ordered_bytes.specs.Buffer.{Buffer, view, width, slots, taken}
 use Rattle.ordered_bytes.specs.Calls.{accepting, consuming, consumingBytes}
 use Rattle.ordered_bytes.proofs.WellFormed.{Good}
@@ -49,7 +49,7 @@ module _ (b : Buffer) (n : ℕ) (payload : List ℕ) where
 -- k packets were taken from the front, each held, and these bytes given
 pub record Takes (b : Buffer) (k : ℕ) (bytes : List ℕ) (after : Buffer) : Type 0 where
   pub were : length (payloads k (view b .held)) ≡ k
-  pub flow : bytes ++ view after .carry ≡ view b .carry ++ join (payloads k (view b .held))
+  pub flow : bytes ++ view after .carry ≡ view b .carry ++ flatten (payloads k (view b .held))
   pub moves : view after ≡ moved (view b) k (view after .carry)
 
 -- an answer of a read, (packets, base, bytes): that many packets were taken, that many bytes stand at the output's start, and the rest of it stays
@@ -245,19 +245,19 @@ weight-pad [] (suc k) = weight-pad [] k
 weight-pad (none ∷ h) k = weight-pad h k
 weight-pad (some p ∷ h) k = rw (weight-pad h k)
 
-weight-drop : (k : ℕ) (h : List (Option (List ℕ))) → length (payloads k h) ≡ k → heldWeight (drop k h) + (k + length (join (payloads k h))) ≡ heldWeight h
-unfolding heldWeight payloads join
+weight-drop : (k : ℕ) (h : List (Option (List ℕ))) → length (payloads k h) ≡ k → heldWeight (drop k h) + (k + length (flatten (payloads k h))) ≡ heldWeight h
+unfolding heldWeight payloads flatten
 weight-drop zero h e = omega arith
 weight-drop (suc k) [] e = absurd (omega arith)
 weight-drop (suc k) (none ∷ h) e = absurd (omega arith)
-weight-drop (suc k) (some p ∷ h) e = omega (arith, weight-drop k h (omega arith), length-append p (join (payloads k h)))
+weight-drop (suc k) (some p ∷ h) e = omega (arith, weight-drop k h (omega arith), length-append p (flatten (payloads k h)))
 
 -- what is left is lighter by the packets taken and the bytes given
 pub takes-weight : {b : Buffer} {k : ℕ} {bytes : List ℕ} {after : Buffer} → Takes b k bytes after → weight after + (k + length bytes) ≡ weight b
 takes-weight {b} {k} {bytes} {after} t =
     let left : heldWeight (view after .held) ≡ heldWeight (drop k (view b .held)) = rw (t .moves) (weight-pad (drop k (view b .held)) k) in
-    let sum : length bytes + length (view after .carry) ≡ length (view b .carry) + length (join (payloads k (view b .held))) =
-    sym (length-append bytes (view after .carry)) ∙ ap length (t .flow) ∙ length-append (view b .carry) (join (payloads k (view b .held))) in
+    let sum : length bytes + length (view after .carry) ≡ length (view b .carry) + length (flatten (payloads k (view b .held))) =
+    sym (length-append bytes (view after .carry)) ∙ ap length (t .flow) ∙ length-append (view b .carry) (flatten (payloads k (view b .held))) in
     omega (arith, weight-drop k (view b .held) (t .were))
 
 -- asked for a byte at least, an answer leaves less

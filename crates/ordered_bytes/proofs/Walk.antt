@@ -5,14 +5,14 @@ use mathlib.Core.Path.{_≡_, refl, sym, ap, _∙_}
 use mathlib.Core.Logic.{_≢_}
 use mathlib.Core.Bool.{Bool, true, false, cond, false≢true}
 use mathlib.Core.Option.{Option, none, some}
-use mathlib.Core.List.{List, [], _∷_, _++_, append-assoc, append-nil}
+use mathlib.Core.List.{List, [], _∷_, _++_, append-assoc, append-nil, flatten}
 use native.Mathlib.Omega.{arith}
 use native.Mathlib.Numerals.{add-one}
 use lib.ListN.{length, drop, getD, length-take, length-drop, length-append, drop-of-length-le, take-append-drop, List·getD-eq-default}
 use lib.Seq.{drop-cons}
 use lib.Dec.{ltb}
 use borrow.Author.Tests.{ltb-true, ltb-false, lt-ltb, le-ltb, eqb-true, eqb-false}
-use Rattle.ordered_bytes.specs.Receiver.{Receiver, Walk, Read, isHeld, placeAt, base, nothing, whole, split, walk, payloads, join, carryPart, carryAndPackets, consumed, carryPiece, takenPayloads, pieces, consumedPieces}
+use Rattle.ordered_bytes.specs.Receiver.{Receiver, Walk, Read, isHeld, placeAt, base, nothing, whole, split, walk, payloads, carryPart, carryAndPackets, consumed, carryPiece, takenPayloads, pieces, consumedPieces}
 use Rattle.ordered_bytes.proofs.Ring.{either}
 
 -- ---- a step, by what stands at distance k
@@ -107,16 +107,16 @@ Within most h = (d : ℕ) (p : List ℕ) → getD h d none ≡ some p → length
 -- and its rest is no longer than a held payload may be
 pub record Walked (room : ℕ) (h : List (Option (List ℕ))) (w : Walk) : Type 0 where
   pub were : length (payloads (w .packets) h) ≡ w .packets
-  pub flow : w .bytes ++ w .rest ≡ join (payloads (w .packets) h)
+  pub flow : w .bytes ++ w .rest ≡ flatten (payloads (w .packets) h)
   pub gave : length (w .bytes) ≤ room
   pub left : (most : ℕ) → Within most h → length (w .rest) ≤ most
 
 walked-nothing : (room : ℕ) (h : List (Option (List ℕ))) → Walked room h nothing
-unfolding payloads join
+unfolding payloads flatten
 walked-nothing room h = record { were = refl; flow = refl; gave = zero-le; left = λ most f. zero-le }
 
 walked-split : (room : ℕ) (p : List ℕ) (h : List (Option (List ℕ))) → Walked room (some p ∷ h) (split room p)
-unfolding payloads join
+unfolding payloads flatten
 walked-split room p h = record {
   were = refl;
   flow = take-append-drop room p ∙ sym (append-nil p);
@@ -125,7 +125,7 @@ walked-split room p h = record {
 }
 
 walked-whole : {room : ℕ} {p : List ℕ} {h : List (Option (List ℕ))} {w : Walk} → length p ≤ room → Walked (room - length p) h w → Walked room (some p ∷ h) (whole p w)
-unfolding payloads join
+unfolding payloads flatten
 walked-whole {room} {p} {h} {w} fits k = record {
   were = ap suc (k .were);
   flow = append-assoc p (w .bytes) (w .rest) ∙ ap (λ (x : List ℕ). p ++ x) (k .flow);
@@ -188,7 +188,7 @@ consumed-whole r len h = rw (le-ltb len (length (r .carry)) h)
 -- and where it took some it names the first one's number
 pub record Took (r : Receiver) (x : Read) : Type 0 where
   pub were : length (payloads (x .packets) (r .held)) ≡ x .packets
-  pub flow : x .bytes ++ x .carry ≡ r .carry ++ join (payloads (x .packets) (r .held))
+  pub flow : x .bytes ++ x .carry ≡ r .carry ++ flatten (payloads (x .packets) (r .held))
   pub first : 0 < x .packets → x .base ≡ r .front
 
 -- so there were as many places
@@ -207,7 +207,7 @@ base-first : (r : Receiver) (k : ℕ) → length (payloads k (r .held)) ≡ k �
 base-first r k e taken = rw (front-held k (r .held) e taken)
 
 took-part : (r : Receiver) (len : ℕ) → Took r (carryPart r len)
-unfolding payloads join
+unfolding payloads flatten
 took-part r len = record {
   were = refl;
   flow = take-append-drop len (r .carry) ∙ sym (append-nil (r .carry));
@@ -221,10 +221,10 @@ took-walk r {w = w} k = record {
   first = base-first r (w .packets) (k .were);
 }
 
-join-carry : (c : List ℕ) (ps : List (List ℕ)) → join (carryPiece c ++ ps) ≡ c ++ join ps
-unfolding join
-join-carry [] ps = refl
-join-carry (b ∷ bs) ps = refl
+flatten-carry : (c : List ℕ) (ps : List (List ℕ)) → flatten (carryPiece c ++ ps) ≡ c ++ flatten ps
+unfolding flatten
+flatten-carry [] ps = refl
+flatten-carry (b ∷ bs) ps = refl
 
 module _ (r : Receiver) where
   pub consumed-took : (len : ℕ) → Took r (consumed r len)
@@ -248,15 +248,15 @@ module _ (r : Receiver) where
       (λ h. rw (consumed-part r len h) (omega (arith, length-drop len (r .carry))))
 
   -- the pieces end to end are the carry-over and the packets' payloads
-  pub join-pieces : (limit : ℕ) → join (pieces r limit) ≡ r .carry ++ join (takenPayloads r limit)
-  join-pieces limit = join-carry (r .carry) (takenPayloads r limit)
+  pub flatten-pieces : (limit : ℕ) → flatten (pieces r limit) ≡ r .carry ++ flatten (takenPayloads r limit)
+  flatten-pieces limit = flatten-carry (r .carry) (takenPayloads r limit)
 
   pub pieces-took : (limit : ℕ) → Took r (consumedPieces r limit)
   pieces-took limit =
       let again = payloads-again (limit - length (carryPiece (r .carry))) (r .held) in
       record {
         were = ap length again;
-        flow = append-nil _ ∙ join-pieces limit ∙ rw again;
+        flow = append-nil _ ∙ flatten-pieces limit ∙ rw again;
         first = base-first r (length (takenPayloads r limit)) (ap length again);
       }
 
@@ -294,9 +294,9 @@ module _ (r : Receiver) where
       by (x ∷ c) h e = absurd (omega arith)
 
   -- a piece is a byte at least, or a packet
-  pub pieces-some : (limit : ℕ) → length (pieces r limit) ≢ 0 → 0 < length (takenPayloads r limit) + length (join (pieces r limit))
-  pieces-some limit e = rw join-pieces (by (r .carry) (takenPayloads r limit) e)
+  pub pieces-some : (limit : ℕ) → length (pieces r limit) ≢ 0 → 0 < length (takenPayloads r limit) + length (flatten (pieces r limit))
+  pieces-some limit e = rw flatten-pieces (by (r .carry) (takenPayloads r limit) e)
     where
-      by : (c : List ℕ) (ps : List (List ℕ)) → length (carryPiece c ++ ps) ≢ 0 → 0 < length ps + length (c ++ join ps)
+      by : (c : List ℕ) (ps : List (List ℕ)) → length (carryPiece c ++ ps) ≢ 0 → 0 < length ps + length (c ++ flatten ps)
       by [] ps e = omega arith
       by (x ∷ c) ps e = omega arith

@@ -3,7 +3,7 @@
 use Prim.Native.Nat.{ℕ, zero, suc, _+_, _-_}
 use mathlib.Core.Bool.{Bool, true, false, not, cond, _&&_, _||_}
 use mathlib.Core.Option.{Option, none, some}
-use mathlib.Core.List.{List, [], _∷_, _++_}
+use mathlib.Core.List.{List, [], _∷_, _++_, flatten}
 use lib.ListN.{length, take, drop, set, getD, replicate}
 use lib.Dec.{ltb, leb, eqb}
 
@@ -118,17 +118,12 @@ takenPayloads r limit = payloads (limit - length (carryPiece (r .carry))) (r .he
 abbrev pub pieces : Receiver → ℕ → List (List ℕ)
 pieces r limit = carryPiece (r .carry) ++ takenPayloads r limit
 
--- some byte lists end to end
-unfoldable pub join : List (List ℕ) → List ℕ
-join [] = []
-join (p ∷ ps) = p ++ join ps
-
 -- "No piece: 8."
 abbrev pub consumedPieces : Receiver → ℕ → Read
 consumedPieces r limit = record {
   packets = length (takenPayloads r limit);
   base = base r;
-  bytes = join (pieces r limit);
+  bytes = flatten (pieces r limit);
   carry = [];
   empty = eqb (length (pieces r limit)) 0;
 }

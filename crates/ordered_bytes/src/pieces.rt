@@ -2,13 +2,13 @@
 // Ports `consume_bytes` of net/ordered_bytes.rs; document 01, "From packets to the reader".
 ghost use mathlib.Core.Path.{_≡_};
 ghost use mathlib.Core.Bool.{true, cond};
-ghost use mathlib.Core.List.{[], map, _++_};
+ghost use mathlib.Core.List.{[], map, _++_, flatten};
 ghost use Prim.Native.Nat.{_+_, _-_, _≤_};
 ghost use lib.ListN.{length, set};
 ghost use lib.Seq.{paste};
 ghost use lib.Dec.{eqb};
 ghost use Rattle.refusal.specs.Said.{answers};
-ghost use Rattle.ordered_bytes.specs.Receiver.{payloads, join, carryPiece, takenPayloads, pieces, base};
+ghost use Rattle.ordered_bytes.specs.Receiver.{payloads, carryPiece, takenPayloads, pieces, base};
 ghost use Rattle.ordered_bytes.specs.Buffer.{bufferOf, view, wellFormed, taken};
 ghost use Rattle.ordered_bytes.specs.Calls.{PieceConsumption, consumedBytesSays};
 use crate::ConsumeBytesAnswer;
@@ -53,7 +53,7 @@ fn count_payloads(
 ) -> Payloads
     requires { ⌜ wellFormed (bufferOf o (now marks) (now lengths) (now store)) ≡ true ⌝ }
     ensures { λ r. ⌜ r .packets ≡ length (payloads most (view (bufferOf o (now (marks .entry)) (now (lengths .entry)) (now (store .entry))) .held)) ⌝ }
-    ensures { λ r. ⌜ r .bytes ≡ length (join (payloads most (view (bufferOf o (now (marks .entry)) (now (lengths .entry)) (now (store .entry))) .held))) ⌝ }
+    ensures { λ r. ⌜ r .bytes ≡ length (flatten (payloads most (view (bufferOf o (now (marks .entry)) (now (lengths .entry)) (now (store .entry))) .held))) ⌝ }
     ensures { λ r. ⌜ r .bytes ≤ 131070000 ⌝ }
 {
     let n = marks.len();
@@ -82,7 +82,7 @@ pub fn count_pieces(
     requires { ⌜ wellFormed (bufferOf o (now marks) (now lengths) (now store)) ≡ true ⌝ }
     ensures { λ r. ⌜ r .packets ≡ length (takenPayloads (view (bufferOf o (now (marks .entry)) (now (lengths .entry)) (now (store .entry)))) limit) ⌝ }
     ensures { λ r. ⌜ r .pieces ≡ length (pieces (view (bufferOf o (now (marks .entry)) (now (lengths .entry)) (now (store .entry)))) limit) ⌝ }
-    ensures { λ r. ⌜ r .bytes ≡ length (join (pieces (view (bufferOf o (now (marks .entry)) (now (lengths .entry)) (now (store .entry)))) limit)) ⌝ }
+    ensures { λ r. ⌜ r .bytes ≡ length (flatten (pieces (view (bufferOf o (now (marks .entry)) (now (lengths .entry)) (now (store .entry)))) limit)) ⌝ }
 {
     let first = carry_pieces(o.carry_len);
     let p = count_payloads(o, saturating_sub(limit, first), marks, lengths, store);
@@ -106,8 +106,8 @@ fn copy_payloads(
     store: &[u8],
 )
     requires { ⌜ (wellFormed (bufferOf o (now marks) (now lengths) (now store)) ≡ true) × (length (payloads packets (view (bufferOf o (now marks) (now lengths) (now store)) .held)) ≡ packets) ⌝ }
-    requires { ⌜ (at + length (join (payloads packets (view (bufferOf o (now marks) (now lengths) (now store)) .held))) ≤ length (now buf)) × (first + packets ≤ length (now list)) ⌝ }
-    ensures { λ _. ⌜ now (buf .exit) ≡ paste (now (buf .entry)) at (join (payloads packets (view (bufferOf o (now (marks .entry)) (now (lengths .entry)) (now (store .entry))) .held))) (length (join (payloads packets (view (bufferOf o (now (marks .entry)) (now (lengths .entry)) (now (store .entry))) .held)))) ⌝ }
+    requires { ⌜ (at + length (flatten (payloads packets (view (bufferOf o (now marks) (now lengths) (now store)) .held))) ≤ length (now buf)) × (first + packets ≤ length (now list)) ⌝ }
+    ensures { λ _. ⌜ now (buf .exit) ≡ paste (now (buf .entry)) at (flatten (payloads packets (view (bufferOf o (now (marks .entry)) (now (lengths .entry)) (now (store .entry))) .held))) (length (flatten (payloads packets (view (bufferOf o (now (marks .entry)) (now (lengths .entry)) (now (store .entry))) .held)))) ⌝ }
     ensures { λ _. ⌜ now (list .exit) ≡ paste (now (list .entry)) first (map length (payloads packets (view (bufferOf o (now (marks .entry)) (now (lengths .entry)) (now (store .entry))) .held))) packets ⌝ }
 {
     let n = marks.len();
@@ -148,8 +148,8 @@ pub fn copy_pieces(
     store: &[u8],
 )
     requires { ⌜ (wellFormed (bufferOf o (now marks) (now lengths) (now store)) ≡ true) × (length (payloads packets (view (bufferOf o (now marks) (now lengths) (now store)) .held)) ≡ packets) ⌝ }
-    requires { ⌜ (o .«carry_len» + length (join (payloads packets (view (bufferOf o (now marks) (now lengths) (now store)) .held))) ≤ length (now buf)) × (cond (eqb (o .«carry_len») 0) 0 1 + packets ≤ length (now list)) ⌝ }
-    ensures { λ _. ⌜ now (buf .exit) ≡ paste (now (buf .entry)) 0 (view (bufferOf o (now (marks .entry)) (now (lengths .entry)) (now (store .entry))) .carry ++ join (payloads packets (view (bufferOf o (now (marks .entry)) (now (lengths .entry)) (now (store .entry))) .held))) (length (view (bufferOf o (now (marks .entry)) (now (lengths .entry)) (now (store .entry))) .carry ++ join (payloads packets (view (bufferOf o (now (marks .entry)) (now (lengths .entry)) (now (store .entry))) .held)))) ⌝ }
+    requires { ⌜ (o .«carry_len» + length (flatten (payloads packets (view (bufferOf o (now marks) (now lengths) (now store)) .held))) ≤ length (now buf)) × (cond (eqb (o .«carry_len») 0) 0 1 + packets ≤ length (now list)) ⌝ }
+    ensures { λ _. ⌜ now (buf .exit) ≡ paste (now (buf .entry)) 0 (view (bufferOf o (now (marks .entry)) (now (lengths .entry)) (now (store .entry))) .carry ++ flatten (payloads packets (view (bufferOf o (now (marks .entry)) (now (lengths .entry)) (now (store .entry))) .held))) (length (view (bufferOf o (now (marks .entry)) (now (lengths .entry)) (now (store .entry))) .carry ++ flatten (payloads packets (view (bufferOf o (now (marks .entry)) (now (lengths .entry)) (now (store .entry))) .held)))) ⌝ }
     ensures { λ _. ⌜ now (list .exit) ≡ paste (now (list .entry)) 0 (map length (carryPiece (view (bufferOf o (now (marks .entry)) (now (lengths .entry)) (now (store .entry))) .carry) ++ payloads packets (view (bufferOf o (now (marks .entry)) (now (lengths .entry)) (now (store .entry))) .held))) (length (carryPiece (view (bufferOf o (now (marks .entry)) (now (lengths .entry)) (now (store .entry))) .carry) ++ payloads packets (view (bufferOf o (now (marks .entry)) (now (lengths .entry)) (now (store .entry))) .held))) ⌝ }
 {
     let carry_len = o.carry_len;
@@ -181,8 +181,8 @@ pub fn give_pieces(
     requires { ⌜ wellFormed (bufferOf o (now marks) (now lengths) (now store)) ≡ true ⌝ }
     requires { ⌜ (length (payloads (p .packets) (view (bufferOf o (now marks) (now lengths) (now store)) .held)) ≡ p .packets) × (p .bytes ≤ length (now buf)) × (p .pieces ≤ length (now list)) ⌝ }
     requires { ⌜ p .pieces ≡ length (carryPiece (view (bufferOf o (now marks) (now lengths) (now store)) .carry) ++ payloads (p .packets) (view (bufferOf o (now marks) (now lengths) (now store)) .held)) ⌝ }
-    requires { ⌜ p .bytes ≡ length (view (bufferOf o (now marks) (now lengths) (now store)) .carry ++ join (payloads (p .packets) (view (bufferOf o (now marks) (now lengths) (now store)) .held))) ⌝ }
-    ensures { λ r. ⌜ _≡_ {A = PieceConsumption} (record { said = consumedBytesSays (r .answer); buffer = bufferOf (r .state) (now (marks .exit)) (now (lengths .exit)) (now (store .exit)); out = now (buf .exit); list = now (list .exit) }) (record { said = answers ((p .packets, base (view (bufferOf o (now (marks .entry)) (now (lengths .entry)) (now (store .entry)))), p .bytes), p .pieces); buffer = taken (bufferOf o (now (marks .entry)) (now (lengths .entry)) (now (store .entry))) (p .packets) []; out = paste (now (buf .entry)) 0 (view (bufferOf o (now (marks .entry)) (now (lengths .entry)) (now (store .entry))) .carry ++ join (payloads (p .packets) (view (bufferOf o (now (marks .entry)) (now (lengths .entry)) (now (store .entry))) .held))) (p .bytes); list = paste (now (list .entry)) 0 (map length (carryPiece (view (bufferOf o (now (marks .entry)) (now (lengths .entry)) (now (store .entry))) .carry) ++ payloads (p .packets) (view (bufferOf o (now (marks .entry)) (now (lengths .entry)) (now (store .entry))) .held))) (p .pieces) }) ⌝ }
+    requires { ⌜ p .bytes ≡ length (view (bufferOf o (now marks) (now lengths) (now store)) .carry ++ flatten (payloads (p .packets) (view (bufferOf o (now marks) (now lengths) (now store)) .held))) ⌝ }
+    ensures { λ r. ⌜ _≡_ {A = PieceConsumption} (record { said = consumedBytesSays (r .answer); buffer = bufferOf (r .state) (now (marks .exit)) (now (lengths .exit)) (now (store .exit)); out = now (buf .exit); list = now (list .exit) }) (record { said = answers ((p .packets, base (view (bufferOf o (now (marks .entry)) (now (lengths .entry)) (now (store .entry)))), p .bytes), p .pieces); buffer = taken (bufferOf o (now (marks .entry)) (now (lengths .entry)) (now (store .entry))) (p .packets) []; out = paste (now (buf .entry)) 0 (view (bufferOf o (now (marks .entry)) (now (lengths .entry)) (now (store .entry))) .carry ++ flatten (payloads (p .packets) (view (bufferOf o (now (marks .entry)) (now (lengths .entry)) (now (store .entry))) .held))) (p .bytes); list = paste (now (list .entry)) 0 (map length (carryPiece (view (bufferOf o (now (marks .entry)) (now (lengths .entry)) (now (store .entry))) .carry) ++ payloads (p .packets) (view (bufferOf o (now (marks .entry)) (now (lengths .entry)) (now (store .entry))) .held))) (p .pieces) }) ⌝ }
 {
     let base = front::base_packet_number(o, marks);
     copy_pieces(o, p.packets, buf, list, marks, lengths, store);

@@ -1,12 +1,12 @@
 -- `ordered_bytes::consume_bytes_unchecked` meets its contract. Assumes nothing.
 use Prim.Native.Nat.{ℕ, _<_, _≤_}
 use mathlib.Core.Path.{_≡_, sym, ap, _∙_}
-use mathlib.Core.List.{List}
+use mathlib.Core.List.{List, flatten}
 use native.Mathlib.Omega.{arith}
 use lib.ListN.{length}
 use borrow.Author.Needs.{needs}
 use borrow.Author.Tests.{lt-ltb, le-ltb, eq-eqb, ne-eqb}
-use Rattle.ordered_bytes.specs.Receiver.{join, pieces}
+use Rattle.ordered_bytes.specs.Receiver.{pieces}
 use Rattle.ordered_bytes.specs.Buffer.{Buffer, bufferOf, view}
 use Rattle.ordered_bytes.specs.Calls.{consumingBytes}
 use Rattle.ordered_bytes.proofs.Gathered.{again-length, again-bytes, again-pieces, gathered}
@@ -24,7 +24,7 @@ abbrev taken-pieces : tie.After-count-pieces → List (List ℕ)
 taken-pieces c = pieces (view (entry (start c))) (start c .args .limit)
 
 -- the first test passed: the output has room
-bytes-fit : (c : tie.Else1) → let counted = c .before .before in length (join (taken-pieces counted)) ≤ length (start counted .args .buf .now)
+bytes-fit : (c : tie.Else1) → let counted = c .before .before in length (flatten (taken-pieces counted)) ≤ length (start counted .args .buf .now)
 bytes-fit c = omega (arith, c .if1 .left, c .before .before .count-pieces .ensures .1 .1)
 
 -- the second: the list has room
@@ -48,7 +48,7 @@ unfolding consumingBytes
 returns c =
     let counted = c .before .before in
     let s = start counted in
-    let short : length (s .args .buf .now) < length (join (taken-pieces counted)) = omega (arith, c .if1 .taken, counted .count-pieces .ensures .1 .1) in
+    let short : length (s .args .buf .now) < length (flatten (taken-pieces counted)) = omega (arith, c .if1 .taken, counted .count-pieces .ensures .1 .1) in
     simp (s .pre, lt-ltb _ _ short)
 
 same-length-4 : tie.Need-same-length-4

@@ -1,8 +1,9 @@
 -- `ordered_bytes::pieces::copy_pieces` meets its contract. Assumes nothing.
+use mathlib.Core.List.{flatten}
 use mathlib.Core.Path.{_≡_}
 use native.Mathlib.Omega.{arith}
 use borrow.Author.Needs.{needs}
-use Rattle.ordered_bytes.specs.Receiver.{payloads, join}
+use Rattle.ordered_bytes.specs.Receiver.{payloads}
 use Rattle.ordered_bytes.specs.Buffer.{Buffer, bufferOf, view}
 use Rattle.ordered_bytes.proofs.WellFormed.{Good, good}
 use Rattle.ordered_bytes.proofs.View.{length-carry}
@@ -52,7 +53,7 @@ returns c =
     let s = copied .before .before .before .before .before .before .before .before in
     let g = facts s in
     let ps = payloads (s .args .packets) (view (entry s) .held) in (
-      carry-then g (join ps) (s .args .buf .now) (omega (arith, s .pre .1 .0)) (copied .copy-part .ensures) (last .copy-payloads .ensures .0),
+      carry-then g (flatten ps) (s .args .buf .now) (omega (arith, s .pre .1 .0)) (copied .copy-part .ensures) (last .copy-payloads .ensures .0),
       cells-written (view (entry s) .carry) (s .args .list .now) ps (length-carry g) (put .put-carry-length .ensures .0) (s .pre .0 .1)
           (omega (arith, put .put-carry-length .ensures .0, s .pre .1 .1)) (put .put-carry-length .ensures .1) (last .copy-payloads .ensures .1),
     )
