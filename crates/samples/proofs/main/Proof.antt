@@ -1,0 +1,70 @@
+-- `samples::main` meets what `check::expect` asks: the header that it makes is the table's, and so are the bytes written. Assumes nothing.
+use Prim.Native.Nat.{ℕ}
+use mathlib.Core.Path.{ap, ap₂, _∙_}
+use mathlib.Core.Bool.{Bool}
+use mathlib.Core.List.{List}
+use lib.ListN.{replicate}
+use borrow.Author.Needs.{needs}
+use Rattle.refusal.specs.Said.{Said}
+use Rattle.header.specs.Header.{headerOf, withNumber, serialisesInto}
+use Rattle.header.specs.declared.PacketType.the-variants.{UnencryptedData}
+use Rattle.header.specs.declared.BluefinSecurityFields.{BluefinSecurityFields}
+use Rattle.header.specs.declared.BluefinHeader.{BluefinHeader}
+use Rattle.samples.proofs.Samples.{samples}
+use Rattle.samples.proofs.main.Statement.{statement}
+use Rattle.samples.proofs.main.Tie as tie
+
+abbrev held : Bool → ℕ → BluefinSecurityFields
+held e m = record { «header_encrypted» = e; «header_protection_mask» = m }
+
+new-requires : tie.Need-new-requires
+new-requires c κs = search needs
+
+new-requires-2 : tie.Need-new-requires-2
+new-requires-2 c κs = search needs
+
+with-packet-number-requires : tie.Need-with-packet-number-requires
+with-packet-number-requires c κs = search needs
+
+slice-aggregate-serialise-into : tie.Need-slice-aggregate-serialise-into
+slice-aggregate-serialise-into c = search needs
+
+serialise-into-requires : tie.Need-serialise-into-requires
+serialise-into-requires c κs = search needs
+
+slice-aggregate-same : tie.Need-slice-aggregate-same
+slice-aggregate-same c = search needs
+
+slice-aggregate-same-2 : tie.Need-slice-aggregate-same-2
+slice-aggregate-same-2 c = search needs
+
+same-requires : tie.Need-same-requires
+same-requires c κs = search needs
+
+expect-requires : tie.Need-expect-requires
+expect-requires c κs =
+    let wrote = c .before .before .before .before in
+    let numbered = wrote .before .before in
+    let made = numbered .before in
+    let security = ap₂ held (made .before .new .ensures .0) (made .before .new .ensures .1) in
+    let header = numbered .with-packet-number .ensures ∙ ap (λ (h : BluefinHeader). withNumber h 7) (made .new2 .ensures ∙ ap (headerOf 1 2 UnencryptedData 5) security) in
+    let said = wrote .serialise-into .ensures ∙ ap (λ (h : BluefinHeader). serialisesInto h (replicate 20 0)) header ∙ samples .data-header in
+    c .same .ensures .1 (ap (λ (x : Said ℕ × List ℕ). x .1) said)
+
+returns : tie.Need-returns
+returns c = search needs
+
+pub main-spec : {M : Type 1} → statement M
+main-spec =
+    tie.close
+    (tie.spec
+    new-requires
+    new-requires-2
+    with-packet-number-requires
+    slice-aggregate-serialise-into
+    serialise-into-requires
+    slice-aggregate-same
+    slice-aggregate-same-2
+    same-requires
+    expect-requires
+    returns)
