@@ -1,16 +1,20 @@
 -- Document 01, "Bench samples": the starred lines as one table, a row for each, in the definitions that the calls' promises cite.
 -- proofs/Samples.antt proves the table by one statement.
-use Prim.Native.Nat.{ℕ}
+use Prim.Native.Nat.{ℕ, _+_, _*_}
 use mathlib.Core.Path.{_≡_}
 use mathlib.Core.Bool.{true, false}
 use mathlib.Core.List.{List, [], _∷_, _++_}
 use lib.ListN.{replicate}
-use Rattle.refusal.specs.Said.{Said, answers, refusesAt}
+use Rattle.refusal.specs.Said.{Said, answers, refuses, refusesAt}
 use Rattle.header.specs.Header.{headerBytes, headerOf, withNumber, serialisesSecurity, serialisesInto, deserialises}
 use Rattle.header.specs.declared.PacketType.{PacketType}
 use Rattle.header.specs.declared.PacketType.the-variants.{UnencryptedData, Ack}
 use Rattle.header.specs.declared.BluefinHeader.{BluefinHeader}
 use Rattle.packet.specs.Datagram.{parses}
+use Rattle.window.specs.Window.{window, insertPacketNumber, insertRange}
+use Rattle.window.specs.declared.SlidingWindow.{SlidingWindow}
+use Rattle.ordered_bytes.specs.Buffer.{Buffer}
+use Rattle.ordered_bytes.specs.Calls.{accepting, consuming}
 
 -- a header with version 0 and security byte 0, from source 1 to destination 2
 abbrev pub plain : PacketType → ℕ → ℕ → BluefinHeader
@@ -24,6 +28,25 @@ dataHeaderBytes = 3 ∷ 0 ∷ 5 ∷ 0 ∷ 0 ∷ 0 ∷ 0 ∷ 1 ∷ 0 ∷ 0 ∷ 0 
 abbrev pub index : List ℕ
 index = replicate 6 99
 
+-- a receive buffer of n slots, each w bytes wide, from number 100, with nothing held
+abbrev pub emptyBuffer : ℕ → ℕ → Buffer
+emptyBuffer n w = record {
+  state = record { «slot_width» = w; «front_slot» = 0; «front_number» = 100; «carry_len» = 0 };
+  marks = replicate n false;
+  lengths = replicate n 0;
+  store = replicate ((n + 1) * w) 0;
+}
+
+-- the buffer with 5 bytes at 100, and what is left of it by a read of 3 and one of 0
+abbrev pub withFive : Buffer
+withFive = accepting (emptyBuffer 2 5) 100 (1 ∷ 2 ∷ 3 ∷ 4 ∷ 5 ∷ []) .buffer
+
+abbrev pub afterThree : Buffer
+afterThree = consuming withFive 3 (replicate 3 0) .buffer
+
+abbrev pub afterNone : Buffer
+afterNone = consuming afterThree 0 [] .buffer
+
 pub record Samples : Type 0 where
   -- "data header, field 5, source 1, destination 2, number 7: 03 00 05 00 00 00 00 01 00 00 00 02 00 00 00 00 00 00 00 07"
   pub data-header : _≡_ {A = Said ℕ × List ℕ} (serialisesInto (plain UnencryptedData 5 7) (replicate 20 0)) (answers 20, dataHeaderBytes)
@@ -35,3 +58,15 @@ pub record Samples : Type 0 where
   pub empty-data-alone : _≡_ {A = Said ℕ × List ℕ} (parses (headerBytes (plain UnencryptedData 0 7)) index) (refusesAt 2 0, index)
   -- "with a 20-byte ack after it: two packets"
   pub empty-data-before-ack : _≡_ {A = Said ℕ × List ℕ} (parses (headerBytes (plain UnencryptedData 0 7) ++ headerBytes (plain Ack 3 9)) index) (answers 2, 0 ∷ 0 ∷ 20 ∷ 0 ∷ 99 ∷ 99 ∷ [])
+  -- "window from 10 with 12: range 10, count 5 stores 10, 11, answers 7."
+  pub range-stops : _≡_ {A = Said Unit × SlidingWindow × List ℕ} (insertRange (window 10 1) (12 ∷ 0 ∷ 0 ∷ 0 ∷ []) 10 5) (refuses 7, window 10 3, 10 ∷ 11 ∷ 12 ∷ 0 ∷ [])
+  -- "40,009 accepted, 40,010 is 6"
+  pub window-last : _≡_ {A = Said Unit × SlidingWindow × List ℕ} (insertPacketNumber (window 10 0) (0 ∷ []) 40009) (answers tt, window 10 1, 40009 ∷ [])
+  pub window-past : insertPacketNumber (window 10 0) (0 ∷ []) 40010 .0 ≡ refuses 6
+  -- "buffer of 2,000 slots from 100: 2,099 accepted, 2,100 is 6"
+  pub buffer-last : accepting (emptyBuffer 2000 1) 2099 [] .said ≡ answers tt
+  pub buffer-past : accepting (emptyBuffer 2000 1) 2100 [] .said ≡ refuses 6
+  -- "payload 5 at 100: read 3 gives (1, 100, 3); read 0 then (0, 0, 0); read 2 then (0, 0, 2)"
+  pub read-three : consuming withFive 3 (replicate 3 0) .said ≡ answers (1, 100, 3)
+  pub read-none : consuming afterThree 0 [] .said ≡ answers (0, 0, 0)
+  pub read-two : consuming afterNone 2 (replicate 2 0) .said ≡ answers (0, 0, 2)
