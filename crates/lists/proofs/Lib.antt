@@ -9,3 +9,4 @@ pub mod Fill
 pub mod Pad
 pub mod Cut
 pub mod Flatten
+pub mod Taken

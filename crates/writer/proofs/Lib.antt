@@ -1,1 +1,5 @@
 pub mod RustPacking
+pub mod Queue
+pub mod Run
+pub mod Packed
+pub mod Announced

@@ -1,5 +1,29 @@
 // Packing what is queued into datagrams. Ports worker/writer.rs without its sockets, tasks and signalling; document 01, "From the queue to a datagram".
+// Proved: what each call says and leaves in lent memory is the definition's, on every input; what is packed is read back (proofs/Made.antt).
+use header::BluefinHeader;
+use header::BluefinSecurityFields;
+use header::PacketType;
 use refusal::Refusal;
+ghost use mathlib.Core.Path.{_≡_};
+ghost use mathlib.Core.List.{List};
+ghost use Prim.Native.Nat.{ℕ, _+_, _*_, _<_, _≤_, min};
+ghost use lib.ListN.{length, take, drop};
+ghost use lib.Seq.{paste};
+ghost use lib.Dec.{eqb};
+ghost use Rattle.refusal.specs.Said.{Said};
+ghost use Rattle.packet.specs.Packet.{packetBytes, joined};
+ghost use Rattle.writer.specs.declared.DataPacked.{DataPacked};
+ghost use Rattle.writer.specs.Packing.{largest, payloadSize, byteLimit, packetsFor, cut, dataPacket, numbered, removal, removed, sum, dataSays, packing};
+ghost use Rattle.writer.specs.PayloadBytes.{payloadBytes};
+
+// The Rust's MAX_BLUEFIN_PAYLOAD_SIZE_BYTES.
+const PAYLOAD_SIZE: usize = 1500;
+
+// The payload bytes of a full datagram: its 15,200 bytes less ten headers.
+const BYTE_LIMIT: usize = 15000;
+
+// The largest packet number that the next one may become.
+const LARGEST: u64 = 18446744073709551615;
 
 // What a packing took and made: payload bytes, packets, the number after the last one, entries removed from the queue's front, and bytes cut
 // from the first entry left.
@@ -14,4 +38,214 @@ pub struct DataPacked {
 pub enum DataAnswer {
     Packed(DataPacked),
     Refused(Refusal),
+}
+
+// The entries that leave the queue, and the bytes cut from the first one left.
+struct Removal {
+    entries: usize,
+    cut: usize,
+}
+
+fn smaller(a: usize, b: usize) -> usize
+    ensures { λ r. ⌜ r ≡ min a b ⌝ }
+{
+    if a < b { a } else { b }
+}
+
+// A plain sum, which the compiler makes wide: fewer than 2^32 entries cannot overflow it.
+fn sum_of(lengths: &[u32]) -> usize
+    requires { ⌜ length (now lengths) < 4294967296 ⌝ }
+    ensures { λ r. ⌜ r ≡ sum (now (lengths .entry)) ⌝ }
+{
+    let mut total = 0;
+    let mut i = 0;
+    while i < lengths.len() {
+        total += lengths[i] as usize;
+        i += 1;
+    }
+    total
+}
+
+// The test of 12 for any number of entries: it stops at the one that exceeds what is left of the total.
+fn use_up(lengths: &[u32], total: usize) -> bool
+    ensures { λ r. ⌜ r ≡ eqb (sum (now (lengths .entry))) total ⌝ }
+{
+    let mut left = total;
+    let mut i = 0;
+    while i < lengths.len() {
+        let entry = lengths[i] as usize;
+        if entry > left {
+            return false;
+        }
+        left -= entry;
+        i += 1;
+    }
+    left == 0
+}
+
+// Refusal 12 where it answers no: "lengths not adding up to the bytes".
+fn add_up(lengths: &[u32], total: usize) -> bool
+    ensures { λ r. ⌜ r ≡ eqb (sum (now (lengths .entry))) total ⌝ }
+{
+    if lengths.len() < 4294967296 {
+        return sum_of(lengths) == total;
+    }
+    use_up(lengths, total)
+}
+
+// The entries that go with the first q bytes.
+fn removed_with(lengths: &[u32], q: usize) -> Removal
+    ensures { λ r. ⌜ _≡_ {A = ℕ × ℕ} (r .entries, r .cut) (removal q (now (lengths .entry))) ⌝ }
+{
+    let mut left = q;
+    let mut i = 0;
+    while left > 0 && i < lengths.len() {
+        let entry = lengths[i] as usize;
+        if entry > left {
+            return Removal {
+                entries: i,
+                cut: left,
+            };
+        }
+        left -= entry;
+        i += 1;
+    }
+    Removal { entries: i, cut: 0 }
+}
+
+// What leaves the queue: below the limit every entry, empty ones too.
+fn removed_up_to(limit: usize, bytes: &[u8], lengths: &[u32]) -> Removal
+    ensures { λ r. ⌜ _≡_ {A = ℕ × ℕ} (r .entries, r .cut) (removed limit (record { bytes = now (bytes .entry); lengths = now (lengths .entry) })) ⌝ }
+{
+    if bytes.len() < limit {
+        return Removal {
+            entries: lengths.len(),
+            cut: 0,
+        };
+    }
+    removed_with(lengths, limit)
+}
+
+// Writes one data packet from `at` on: its payload is the n bytes from `from` on.
+fn write_packet(
+    bytes: &[u8],
+    from: usize,
+    n: usize,
+    packet_number: u64,
+    src_conn_id: u32,
+    dst_conn_id: u32,
+    out: &mut [u8],
+    at: usize,
+)
+    requires { ⌜ (n < 65536) × (from + n ≤ length (now bytes)) × (at + 20 + n ≤ length (now out)) ⌝ }
+    ensures { λ _. ⌜ now (out .exit) ≡ paste (now (out .entry)) at (packetBytes (dataPacket «src_conn_id» «dst_conn_id» «packet_number» (take n (drop from (now (bytes .entry)))))) (20 + n) ⌝ }
+{
+    let security = BluefinSecurityFields::new(false, 0);
+    let header = BluefinHeader::new(
+        src_conn_id,
+        dst_conn_id,
+        PacketType::UnencryptedData,
+        n as u16,
+        security,
+    );
+    header
+        .with_packet_number(packet_number)
+        .serialise_at_unchecked(out, at);
+    parts::copy_part(bytes, from, n, out, at + 20);
+}
+
+// Writes all of `taken` as packets, from the output's start.
+fn write_packets(
+    taken: &[u8],
+    next_packet_num: u64,
+    src_conn_id: u32,
+    dst_conn_id: u32,
+    out: &mut [u8],
+)
+    requires { ⌜ («next_packet_num» + packetsFor (length (now taken)) ≤ largest) × (length (now taken) + 20 * packetsFor (length (now taken)) ≤ length (now out)) ⌝ }
+    ensures { λ _. ⌜ now (out .exit) ≡ paste (now (out .entry)) 0 (joined (numbered «src_conn_id» «dst_conn_id» «next_packet_num» (cut payloadSize (packetsFor (length (now (taken .entry)))) (now (taken .entry))))) (length (now (taken .entry)) + 20 * packetsFor (length (now (taken .entry)))) ⌝ }
+{
+    let mut from = 0;
+    let mut at = 0;
+    let mut number = next_packet_num;
+    while from < taken.len() {
+        let n = smaller(taken.len() - from, PAYLOAD_SIZE);
+        write_packet(taken, from, n, number, src_conn_id, dst_conn_id, out, at);
+        from += n;
+        at = at + 20 + n;
+        number += 1;
+    }
+}
+
+// `consume_data_into` with its byte limit.
+fn consume_data_up_to(
+    limit: usize,
+    bytes: &[u8],
+    lengths: &[u32],
+    next_packet_num: u64,
+    src_conn_id: u32,
+    dst_conn_id: u32,
+    out: &mut [u8],
+) -> DataAnswer
+    ensures { λ r. ⌜ _≡_ {A = Said DataPacked × List ℕ} (dataSays r, now (out .exit)) (packing limit (record { bytes = now (bytes .entry); lengths = now (lengths .entry) }) «next_packet_num» «src_conn_id» «dst_conn_id» (now (out .entry))) ⌝ }
+{
+    if !add_up(lengths, bytes.len()) {
+        return DataAnswer::Refused(Refusal::Malformed);
+    }
+    let q = smaller(bytes.len(), limit);
+    let p = (q + (PAYLOAD_SIZE - 1)) / PAYLOAD_SIZE;
+    if p as u64 > LARGEST - next_packet_num {
+        return DataAnswer::Refused(Refusal::Exhausted);
+    }
+    if out.len() < q + 20 * p {
+        return DataAnswer::Refused(Refusal::BufferShort);
+    }
+    write_packets(&bytes[..q], next_packet_num, src_conn_id, dst_conn_id, out);
+    let removal = removed_up_to(limit, bytes, lengths);
+    DataAnswer::Packed(DataPacked {
+        bytes: q,
+        packets: p,
+        next_packet_num: next_packet_num + p as u64,
+        entries_removed: removal.entries,
+        bytes_cut: removal.cut,
+    })
+}
+
+// worker/writer.rs, `WriterHandler::consume_data_into`. The queue is lent as its bytes end to end and the lengths of its entries; what leaves it is answered.
+pub fn consume_data_into(
+    bytes: &[u8],
+    lengths: &[u32],
+    next_packet_num: u64,
+    src_conn_id: u32,
+    dst_conn_id: u32,
+    out: &mut [u8],
+) -> DataAnswer
+    ensures { λ r. ⌜ _≡_ {A = Said DataPacked × List ℕ} (dataSays r, now (out .exit)) (packing byteLimit (record { bytes = now (bytes .entry); lengths = now (lengths .entry) }) «next_packet_num» «src_conn_id» «dst_conn_id» (now (out .entry))) ⌝ }
+{
+    consume_data_up_to(
+        BYTE_LIMIT,
+        bytes,
+        lengths,
+        next_packet_num,
+        src_conn_id,
+        dst_conn_id,
+        out,
+    )
+}
+
+// worker/writer.rs, `WriterHandler::payload_bytes_in_datagram`.
+pub fn payload_bytes_in_datagram(datagram: &[u8]) -> usize
+    ensures { λ r. ⌜ r ≡ payloadBytes (now (datagram .entry)) ⌝ }
+{
+    let mut total = 0;
+    let mut at = 0;
+    while datagram.len() - at >= 20 {
+        let field = parts::get2(datagram, at + 1) as usize;
+        if datagram.len() - at - 20 < field {
+            return total;
+        }
+        total += field;
+        at = at + 20 + field;
+    }
+    total
 }

@@ -1,0 +1,112 @@
+-- `writer::consume_data_up_to` meets its contract: the checks in their order, then the packets written and what leaves the queue. Assumes nothing.
+use Prim.Native.Nat.{_+_, _≤_}
+use mathlib.Core.Path.{_≡_, sym, _∙_}
+use mathlib.Core.Bool.{true}
+use native.Mathlib.Omega.{arith}
+use lib.ListN.{length, take}
+use lib.Seq.{length-take-le}
+use lib.Dec.{eqb}
+use denote.Ref.{now}
+use borrow.Author.Needs.{needs}
+use borrow.Author.Tests.{not-true, not-false}
+use Rattle.writer.specs.Packing.{largest, payloadSize, packetsFor, sum}
+use Rattle.writer.proofs.Packed.{malformed, exhausted, short, packed}
+use Rattle.writer.proofs.consume_data_up_to.Statement.{statement}
+use Rattle.writer.proofs.consume_data_up_to.Tie as tie
+
+-- the lengths add up
+added : (t : tie.Else1) → let start = t .before .before .before .before .before in
+    eqb (sum (now (start .args .lengths))) (length (now (start .args .bytes))) ≡ true
+added t = sym (t .before .add-up .ensures) ∙ not-false _ (t .if1 .left)
+
+-- the numbers go round
+numbers : (t : tie.Else2) → t .before .before .before .before .before .before .before .args .next-packet-num + packetsFor (t .before .smaller .result) ≤ largest
+unfolding payloadSize
+numbers t = omega (arith, t .if2 .left)
+
+add-up-requires : tie.Need-add-up-requires
+add-up-requires c κs = search needs
+
+returns : tie.Need-returns
+returns c = malformed _ _ _ _ _ _ _ (sym (c .before .add-up .ensures) ∙ not-true _ (c .if1 .taken))
+
+smaller-requires : tie.Need-smaller-requires
+smaller-requires c κs = search needs
+
+sub-p : tie.Need-sub-p
+sub-p c = search needs
+
+add-p : tie.Need-add-p
+add-p c = search needs
+
+sub-if2 : tie.Need-sub-if2
+sub-if2 c = search needs
+
+returns-2 : tie.Need-returns-2
+unfolding payloadSize
+returns-2 c = exhausted _ _ _ _ _ _ _ (added (c .before .before)) (c .before .smaller .ensures) (omega (arith, c .if2 .taken))
+
+mul-if3 : tie.Need-mul-if3
+mul-if3 c = search needs
+
+add-if3 : tie.Need-add-if3
+add-if3 c = search needs
+
+returns-3 : tie.Need-returns-3
+unfolding payloadSize
+returns-3 c =
+    let t = c .before .before in
+    short _ _ _ _ _ _ _ (added (t .before)) (t .smaller .ensures) (numbers (c .before)) (c .if3 .taken)
+
+slice-aggregate-write-packets : tie.Need-slice-aggregate-write-packets
+slice-aggregate-write-packets c =
+    let t = c .before .before .before in
+    sym (length-take-le _ _ (omega (arith, t .smaller .ensures)))
+
+write-packets-requires : tie.Need-write-packets-requires
+unfolding payloadSize
+write-packets-requires c κs =
+    let room = c .before .before in
+    let t = room .before .before in
+    let start = t .before .before .before .before .before .before in
+    let long : length (take (t .smaller .result) (now (start .args .bytes))) ≡ t .smaller .result = length-take-le _ _ (omega (arith, t .smaller .ensures)) in
+    rw long (numbers (room .before), room .if3 .left)
+
+removed-up-to-requires : tie.Need-removed-up-to-requires
+removed-up-to-requires c κs = search needs
+
+add-t16 : tie.Need-add-t16
+add-t16 c = search needs
+
+same-length : tie.Need-same-length
+same-length c = search needs
+
+returns-4 : tie.Need-returns-4
+unfolding payloadSize
+returns-4 c =
+    let wrote = c .before .before .before in
+    let room = wrote .before .before .before in
+    let t = room .before .before in
+    packed _ _ _ _ _ _ _ (added (t .before)) (t .smaller .ensures) (numbers (room .before)) (room .if3 .left)
+    (wrote .write-packets .ensures) (c .removed-up-to .ensures)
+
+pub consume-data-up-to-spec : {M : Type 1} → statement M
+consume-data-up-to-spec =
+    tie.close
+    (tie.spec
+    add-up-requires
+    returns
+    smaller-requires
+    sub-p
+    add-p
+    sub-if2
+    returns-2
+    mul-if3
+    add-if3
+    returns-3
+    slice-aggregate-write-packets
+    write-packets-requires
+    removed-up-to-requires
+    add-t16
+    same-length
+    returns-4)

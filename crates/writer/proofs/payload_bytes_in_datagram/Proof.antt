@@ -1,0 +1,87 @@
+-- `writer::payload_bytes_in_datagram` meets its contract. The invariant: what was added, and what is announced from the cursor on, is the whole.
+-- Assumes nothing.
+use Prim.Native.Nat.{_+_, _-_, _≤_}
+use mathlib.Core.Path.{_≡_}
+use native.Mathlib.Omega.{arith}
+use lib.ListN.{length}
+use denote.Ref.{now}
+use borrow.Author.Needs.{needs}
+use Rattle.writer.specs.PayloadBytes.{payloadBytes}
+use Rattle.writer.proofs.Announced.{announced, announced-first, announced-tail, announced-short, announced-next}
+use Rattle.writer.proofs.payload_bytes_in_datagram.Statement.{statement}
+use Rattle.writer.proofs.payload_bytes_in_datagram.Tie as tie
+
+abbrev Inv-loop : tie.InvT-loop
+Inv-loop datagram total₀ at₀ total at = (at ≤ length datagram) × (total ≤ at) × (total + announced datagram at ≡ payloadBytes datagram)
+
+abbrev μ-loop : tie.MeasureT-loop
+μ-loop datagram total₀ at₀ total at = length datagram - at
+
+loop-holds : tie.Need-loop-holds Inv-loop μ-loop
+loop-holds c = omega (arith, announced-first (now (c .before .args .datagram)))
+
+sub-loop : tie.Need-sub-loop Inv-loop μ-loop
+sub-loop c = search needs
+
+add-get2 : tie.Need-add-get2 Inv-loop μ-loop
+add-get2 c = search needs
+
+get2-requires : tie.Need-get2-requires Inv-loop μ-loop
+get2-requires c κs = search needs
+
+cast-field : tie.Need-cast-field Inv-loop μ-loop
+cast-field c = search needs
+
+sub-if1 : tie.Need-sub-if1 Inv-loop μ-loop
+sub-if1 c = search needs
+
+sub-if1-2 : tie.Need-sub-if1-2 Inv-loop μ-loop
+sub-if1-2 c = search needs
+
+returns : tie.Need-returns Inv-loop μ-loop
+returns c =
+    let at = c .before .before .before in
+    let none = announced-short (now (at .before .before .args .datagram)) (at .loop .at) (c .before .before .loop-test .taken) (c .before .get2 .ensures) (c .if1 .taken) in
+    omega arith
+
+add-total : tie.Need-add-total Inv-loop μ-loop
+add-total c = omega arith
+
+add-at : tie.Need-add-at Inv-loop μ-loop
+add-at c = omega arith
+
+add-at-2 : tie.Need-add-at-2 Inv-loop μ-loop
+add-at-2 c = omega arith
+
+loop-less : tie.Need-loop-less Inv-loop μ-loop
+loop-less c = omega arith
+
+loop-again : tie.Need-loop-again Inv-loop μ-loop
+loop-again c =
+    let at = c .before .before .before in
+    let next = announced-next (now (at .before .before .args .datagram)) (at .loop .at) (c .before .before .loop-test .taken) (c .before .get2 .ensures) (c .if1 .left) in
+    omega arith
+
+returns-2 : tie.Need-returns-2 Inv-loop μ-loop
+returns-2 c = omega (arith, announced-tail (now (c .before .before .before .args .datagram)) (c .before .loop .at) (c .loop-test .left))
+
+pub payload-bytes-in-datagram-spec : {M : Type 1} → statement M
+payload-bytes-in-datagram-spec =
+    tie.close
+    (tie.spec
+    Inv-loop
+    μ-loop
+    loop-holds
+    sub-loop
+    add-get2
+    get2-requires
+    cast-field
+    sub-if1
+    sub-if1-2
+    returns
+    add-total
+    add-at
+    add-at-2
+    loop-less
+    loop-again
+    returns-2)
