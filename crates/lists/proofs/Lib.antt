@@ -10,3 +10,4 @@ pub mod Pad
 pub mod Cut
 pub mod Flatten
 pub mod Taken
+pub mod Lookup

@@ -16,12 +16,12 @@ use Rattle.window.proofs.Rises.{Rises, not-below}
 abbrev pub among : ℕ → ℕ → ℕ → Bool
 among b k n = leb b n && ltb n (b + k)
 
-member-append : (n : ℕ) (xs ys : List ℕ) → member n (xs ++ ys) ≡ (member n xs || member n ys)
+pub member-append : (n : ℕ) (xs ys : List ℕ) → member n (xs ++ ys) ≡ (member n xs || member n ys)
 unfolding member
 member-append n [] ys = refl
 member-append n (x ∷ xs) ys = rw (member-append n xs ys) (sym (or-assoc (eqb x n) (member n xs) (member n ys)))
 
-member-numbers : (n b k : ℕ) → member n (numbers b k) ≡ among b k n
+pub member-numbers : (n b k : ℕ) → member n (numbers b k) ≡ among b k n
 unfolding member numbers
 member-numbers n b zero = by (leb b n) refl
   where

@@ -1,3 +1,4 @@
 pub mod Packing
 pub mod RustPacking
 pub mod PayloadBytes
+pub mod Reserve

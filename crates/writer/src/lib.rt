@@ -15,6 +15,7 @@ ghost use Rattle.packet.specs.Packet.{packetBytes, joined};
 ghost use Rattle.writer.specs.declared.DataPacked.{DataPacked};
 ghost use Rattle.writer.specs.Packing.{largest, payloadSize, byteLimit, packetsFor, cut, dataPacket, numbered, removal, removed, sum, dataSays, packing};
 ghost use Rattle.writer.specs.PayloadBytes.{payloadBytes};
+ghost use Rattle.writer.specs.Reserve.{reserving, reserveSays};
 
 // The Rust's MAX_BLUEFIN_PAYLOAD_SIZE_BYTES.
 const PAYLOAD_SIZE: usize = 1500;
@@ -37,6 +38,17 @@ pub struct DataPacked {
 
 pub enum DataAnswer {
     Packed(DataPacked),
+    Refused(Refusal),
+}
+
+// A FIN's number, and the next one.
+pub struct Reservation {
+    pub number: u64,
+    pub next_packet_num: u64,
+}
+
+pub enum ReserveAnswer {
+    Reserved(Reservation),
     Refused(Refusal),
 }
 
@@ -248,4 +260,17 @@ pub fn payload_bytes_in_datagram(datagram: &[u8]) -> usize
         at = at + 20 + field;
     }
     total
+}
+
+// worker/writer.rs, `reserve_close_packet_num`. The Rust raises a mirror of the counter; here there is one counter, which packing takes its numbers from too.
+pub fn reserve_close_packet_num(next_packet_num: u64) -> ReserveAnswer
+    ensures { λ r. ⌜ reserveSays r ≡ reserving «next_packet_num» ⌝ }
+{
+    if next_packet_num >= LARGEST {
+        return ReserveAnswer::Refused(Refusal::Exhausted);
+    }
+    ReserveAnswer::Reserved(Reservation {
+        number: next_packet_num,
+        next_packet_num: next_packet_num + 1,
+    })
 }

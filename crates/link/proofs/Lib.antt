@@ -1,0 +1,10 @@
+pub mod All
+pub mod Runs
+pub mod Invariant
+pub mod Parsing
+pub mod Sender
+pub mod Receiver
+pub mod Window
+pub mod Covered
+pub mod Demand3
+pub mod Sample

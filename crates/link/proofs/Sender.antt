@@ -1,0 +1,325 @@
+-- The sender's side of demand 3: which number carries which payload, and that each of the sender's calls keeps `SenderKeeps`.
+-- Document 01, "From the queue to a datagram", "Closing" and "Premises of demand 3".
+-- Assumes nothing.
+use Prim.Native.Nat.{ℕ, zero, suc, _+_, _-_, _*_, _/_, _≤_, _<_}
+use mathlib.Core.Path.{_≡_, refl, sym, ap, _∙_}
+use mathlib.Core.Logic.{inl, inr}
+use mathlib.Core.Bool.{Bool, true, false, cond}
+use mathlib.Core.Option.{some}
+use mathlib.Core.List.{List, [], _∷_, _++_, map, map-append, append-assoc, append-nil, flatten}
+use native.Mathlib.Nat.{add-zero, add-suc, suc-add, zero-mul, suc-mul, div-add-mod', mod-lt}
+use native.Mathlib.Omega.{arith}
+use lib.ListN.{length, take, drop, getElem?, length-append, length-take, length-drop, take-append-drop}
+use lib.Seq.{drop-length}
+use lib.Dec.{ltb, leb, lit<}
+use borrow.Author.Tests.{ltb-true, ltb-false, leb-true, leb-false, eq-eqb}
+use Rattle.refusal.specs.Said.{Said, answers, refuses, checks}
+use Rattle.lists.proofs.Flatten.{flatten-append}
+use Rattle.packet.specs.Packet.{Packet}
+use Rattle.writer.specs.Packing.{Queue, packing, payloadSize, byteLimit, bytesTaken, packetsFor, cut, payloadsOf, numbered, removal, removed, sum}
+use Rattle.writer.specs.Reserve.{reserving}
+use Rattle.writer.specs.declared.DataPacked.{DataPacked}
+use Rattle.ordered_bytes.specs.Receiver.{largest}
+use Rattle.ordered_bytes.specs.declared.OrderedBytes.{OrderedBytes}
+use Rattle.link.specs.Demand3.{SenderSide, Link, fresh, enqueued, cutFirst, packedBy, packed, reservedBy, refusal, In, All, MadeEarlier, Made}
+use Rattle.link.proofs.All.{all-append}
+use Rattle.link.proofs.Invariant.{key, numberedFrom, SenderKeeps}
+
+-- ---- which number carries which payload
+
+pub numberedFrom-append : (n : ℕ) (xs ys : List (List ℕ)) → numberedFrom n (xs ++ ys) ≡ numberedFrom n xs ++ numberedFrom (n + length xs) ys
+unfolding numberedFrom
+numberedFrom-append n [] ys = rw add-zero
+numberedFrom-append n (p ∷ xs) ys = rw (add-suc, ← suc-add) (ap (λ (r : List (ℕ × List ℕ)). (n, p) ∷ r) (numberedFrom-append (suc n) xs ys))
+
+-- packets numbered from n on have these numbers and these payloads
+pub keys-numbered : (src dst n : ℕ) (ps : List (List ℕ)) → map key (numbered src dst n ps) ≡ numberedFrom n ps
+unfolding numberedFrom numbered
+keys-numbered src dst n [] = refl
+keys-numbered src dst n (p ∷ ps) = ap (λ (r : List (ℕ × List ℕ)). (n, p) ∷ r) (keys-numbered src dst (suc n) ps)
+
+-- of the payloads numbered from s on, p is the one with number n
+pub record Carries (s : ℕ) (payloads : List (List ℕ)) (n : ℕ) (p : List ℕ) : Type 0 where
+  pub from : s ≤ n
+  pub here : getElem? payloads (n - s) ≡ some p
+
+-- where the packets made are the payloads numbered from n on: a packet among them, and the packet of each payload
+keyed-at : (n : ℕ) (made : List Packet) (payloads : List (List ℕ)) (p : Packet) → map key made ≡ numberedFrom n payloads → In p made
+    → Carries n payloads (p .header .«packet_number») (p .payload)
+unfolding numberedFrom In
+keyed-at n [] payloads p e i = absurd i
+keyed-at n (q ∷ made) [] p e i = absurd (let z : _≡_ {A = ℕ} 0 1 = cc in omega arith)
+keyed-at n (q ∷ made) (x ∷ payloads) p e (inl i) =
+    let first : key q ≡ (n, x) = cc in
+    let number : p .header .«packet_number» ≡ n = ap (λ (r : Packet). r .header .«packet_number») i ∙ ap (λ (k : ℕ × List ℕ). k .0) first in
+    let none : n - n ≡ 0 = omega arith in
+    let payload : x ≡ p .payload = ap (λ (k : ℕ × List ℕ). k .1) (sym first) ∙ ap (λ (r : Packet). r .payload) (sym i) in
+    record { from = omega arith; here = rw (number, none) (ap some payload) }
+keyed-at n (q ∷ made) (x ∷ payloads) p e (inr i) =
+    let later = keyed-at (suc n) made payloads p (cc) i in
+    let from : suc n ≤ p .header .«packet_number» = later .from in
+    let next : p .header .«packet_number» - n ≡ suc (p .header .«packet_number» - suc n) = omega arith in
+    record { from = omega arith; here = rw next (later .here) }
+
+keyed-is : (l : Link) (n : ℕ) (made : List Packet) (payloads : List (List ℕ)) (i : ℕ) (p : List ℕ) → ((q : Packet) → In q made → In q (l .sender .made))
+    → map key made ≡ numberedFrom n payloads → getElem? payloads i ≡ some p → Made l (n + i) p
+unfolding numberedFrom In
+keyed-is l n made [] i p within e at = absurd (let z : _≡_ {A = ℕ} 0 1 = cc in omega arith)
+keyed-is l n [] (x ∷ payloads) i p within e at = absurd (let z : _≡_ {A = ℕ} 0 1 = cc in omega arith)
+keyed-is l n (q ∷ made) (x ∷ payloads) zero p within e at =
+    let first : key q ≡ (n, x) = cc in
+    let same : x ≡ p = cc in
+    record { packet = q; made = within q (inl refl); number = rw add-zero (ap (λ (k : ℕ × List ℕ). k .0) first); carries = ap (λ (k : ℕ × List ℕ). k .1) first ∙ same }
+keyed-is l n (q ∷ made) (x ∷ payloads) (suc i) p within e at =
+    rw (add-suc, ← suc-add) (keyed-is l (suc n) made payloads i p (λ r h. within r (inr h)) (cc) at)
+
+module _ {s : ℕ} {payloads : List (List ℕ)} {d : SenderSide} (v : SenderKeeps s payloads d) where
+  -- a packet made carries the payload of its number
+  pub made-at : (p : Packet) → In p (d .made) → Carries s payloads (p .header .«packet_number») (p .payload)
+  made-at p i = keyed-at s (d .made) payloads p (v .made) i
+
+module _ {s : ℕ} {payloads : List (List ℕ)} {l : Link} (v : SenderKeeps s payloads (l .sender)) where
+  -- and so does one that was made earlier, as each that arrives
+  pub made-earlier-at : (p : Packet) → MadeEarlier l p → Carries s payloads (p .header .«packet_number») (p .payload)
+  made-earlier-at p m = rw (m .number, m .payload) (made-at v (m .original) (m .made))
+
+  -- each payload is carried by a packet made
+  pub made-is : (i : ℕ) (p : List ℕ) → getElem? payloads i ≡ some p → Made l (s + i) p
+  made-is i p at = keyed-is l s (l .sender .made) payloads i p (λ q h. h) (v .made) at
+
+-- ---- laws of the words that the sender keeps
+
+sum-append : (xs ys : List ℕ) → sum (xs ++ ys) ≡ sum xs + sum ys
+unfolding sum
+sum-append [] ys = omega arith
+sum-append (x ∷ xs) ys = omega (arith, sum-append xs ys)
+
+sum-lengths : (xs : List (List ℕ)) → sum (map length xs) ≡ length (flatten xs)
+unfolding sum flatten
+sum-lengths [] = refl
+sum-lengths (x ∷ xs) = omega (arith, sum-lengths xs, length-append x (flatten xs))
+
+-- ---- what packing takes, and what it leaves
+
+module _ (size : ℕ) where
+  -- k payloads with room for all bytes hold them all
+  cut-joins : (k : ℕ) (bytes : List ℕ) → length bytes ≤ k * size → flatten (cut size k bytes) ≡ bytes
+  unfolding cut flatten
+  cut-joins zero [] h = refl
+  cut-joins zero (b ∷ bytes) h = absurd (omega (arith, zero-mul size))
+  cut-joins (suc k) bytes h = rw (cut-joins k (drop size bytes) (omega (arith, suc-mul k size, length-drop size bytes))) (take-append-drop size bytes)
+
+  -- none of k payloads is empty where one fewer has no room for all bytes
+  cut-filled : (k : ℕ) (bytes : List ℕ) → 0 < size → k * size < length bytes + size → All (λ p. 0 < length p) (cut size k bytes)
+  unfolding cut All
+  cut-filled zero bytes room h = tt
+  cut-filled (suc k) bytes room h =
+      (omega (arith, suc-mul k size, length-take size bytes), cut-filled k (drop size bytes) room (omega (arith, suc-mul k size, length-drop size bytes)))
+
+  length-cut : (k : ℕ) (bytes : List ℕ) → length (cut size k bytes) ≡ k
+  unfolding cut
+  length-cut zero bytes = refl
+  length-cut (suc k) bytes = ap suc (length-cut k (drop size bytes))
+
+  -- rounded up, as many payloads as q bytes fill have room for q bytes, and one fewer has not
+  rounds-up : (q : ℕ) → 0 < size → (q ≤ (q + (size - 1)) / size * size) × ((q + (size - 1)) / size * size < q + size)
+  rounds-up q room =
+      let exact = div-add-mod' (q + (size - 1)) size in
+      let rest = mod-lt (q + (size - 1)) room in
+      (omega arith, omega arith)
+
+some-size : 0 < payloadSize
+unfolding payloadSize
+some-size = lit< tt
+
+module _ (limit : ℕ) (bytes : List ℕ) where
+  -- the bytes that are taken
+  abbrev taken : List ℕ
+  taken = take (bytesTaken limit (length bytes)) bytes
+
+  length-taken : length taken ≡ bytesTaken limit (length bytes)
+  length-taken = omega (arith, length-take (bytesTaken limit (length bytes)) bytes)
+
+  payloads-flatten : flatten (payloadsOf limit bytes) ≡ taken
+  payloads-flatten =
+      let q = bytesTaken limit (length bytes) in
+      cut-joins payloadSize (packetsFor q) taken (omega (arith, length-taken, rounds-up payloadSize q some-size .0))
+
+  payloads-filled : All (λ p. 0 < length p) (payloadsOf limit bytes)
+  payloads-filled =
+      let q = bytesTaken limit (length bytes) in
+      cut-filled payloadSize (packetsFor q) taken some-size (omega (arith, length-taken, rounds-up payloadSize q some-size .1))
+
+  length-payloads : length (payloadsOf limit bytes) ≡ packetsFor (bytesTaken limit (length bytes))
+  length-payloads = length-cut payloadSize (packetsFor (bytesTaken limit (length bytes))) taken
+
+-- the entries left, where some go and some bytes are cut from the next
+abbrev left : ℕ × ℕ → List ℕ → List ℕ
+left r ls = cutFirst (r .1) (drop (r .0) ls)
+
+-- one entry of l bytes in front, of which suc q bytes go
+left-first : (b : Bool) (q l : ℕ) (ls : List ℕ) (r : ℕ × ℕ) → leb l (suc q) ≡ b → sum (left r ls) ≡ sum ls - (suc q - l)
+    → sum (left (cond b (suc (r .0), r .1) (0, suc q)) (l ∷ ls)) ≡ l + sum ls - suc q
+unfolding sum
+left-first true q l ls r e rest = let goes = leb-true l (suc q) e in rest ∙ omega arith
+left-first false q l ls r e rest = let stays = leb-false l (suc q) e in omega arith
+
+-- the entries left once q bytes have gone hold q bytes fewer
+removal-left : (q : ℕ) (ls : List ℕ) → sum (left (removal q ls) ls) ≡ sum ls - q
+unfolding removal sum
+removal-left q [] = omega arith
+removal-left zero (l ∷ ls) = omega arith
+removal-left (suc q) (l ∷ ls) = left-first (leb l (suc q)) q l ls (removal (suc q - l) ls) refl (removal-left (suc q - l) ls)
+
+left-all : (ls : List ℕ) → sum (left (length ls, 0) ls) ≡ 0
+unfolding sum
+left-all ls = rw drop-length
+
+-- what is left of a queue adds up again
+left-adds-up : (limit : ℕ) (queue : Queue) → sum (queue .lengths) ≡ length (queue .bytes)
+    → sum (left (removed limit queue) (queue .lengths)) ≡ length (drop (bytesTaken limit (length (queue .bytes))) (queue .bytes))
+left-adds-up limit queue e = by (ltb (length (queue .bytes)) limit) refl
+  where
+    q : ℕ
+    q = bytesTaken limit (length (queue .bytes))
+
+    by : (b : Bool) → ltb (length (queue .bytes)) limit ≡ b
+        → sum (left (cond b (length (queue .lengths), 0) (removal q (queue .lengths))) (queue .lengths)) ≡ length (drop q (queue .bytes))
+    by true t = left-all (queue .lengths) ∙ omega (arith, ltb-true (length (queue .bytes)) limit t, length-drop q (queue .bytes))
+    by false t = removal-left q (queue .lengths) ∙ omega (arith, length-drop q (queue .bytes))
+
+-- ---- the sender's calls
+
+pub sender-begins : (s w : ℕ) (o : OrderedBytes) (marks : List Bool) (lengths store cells : List ℕ) → s ≤ largest
+    → SenderKeeps s [] (fresh s w o marks lengths store cells .sender)
+unfolding numberedFrom All flatten sum
+sender-begins s w o marks lengths store cells h = record {
+  made = refl;
+  filled = tt;
+  stream = refl;
+  addsUp = refl;
+  unclosed = λ e. omega arith;
+  above = omega arith;
+  fits = h;
+}
+
+-- what a packing that is not refused answers
+abbrev taking : SenderSide → DataPacked
+taking d =
+    let q = bytesTaken byteLimit (length (d .queue .bytes)) in
+    record {
+      bytes = q;
+      packets = packetsFor q;
+      «next_packet_num» = d .next + packetsFor q;
+      «entries_removed» = removed byteLimit (d .queue) .0;
+      «bytes_cut» = removed byteLimit (d .queue) .1;
+    }
+
+-- what packing says of a queue that adds up: all that it takes, or a refusal that is not 12
+data Says (d : SenderSide) : Said DataPacked → Type 0 where
+  takes : taking d .«next_packet_num» ≤ largest → Says d (answers (taking d))
+  stays : (n : ℕ) → (n ≡ 12 → ⊥) → Says d (refuses n)
+
+packing-says : (src dst : ℕ) (out : List ℕ) (d : SenderSide) → sum (d .queue .lengths) ≡ length (d .queue .bytes)
+    → Says d (packing byteLimit (d .queue) (d .next) src dst out .0)
+unfolding packing
+packing-says src dst out d e =
+    let q = bytesTaken byteLimit (length (d .queue .bytes)) in
+    rw (eq-eqb (sum (d .queue .lengths)) (length (d .queue .bytes)) e) (by (ltb largest (taking d .«next_packet_num»)) (ltb (length out) (q + 20 * packetsFor q)) _ refl)
+  where
+    by : (exhausted short : Bool) (written : List ℕ) → ltb largest (taking d .«next_packet_num») ≡ exhausted
+        → Says d (checks {A = Said DataPacked × List ℕ} ((false, 12) ∷ (exhausted, 9) ∷ (short, 10) ∷ []) (λ n. (refuses n, out)) (answers (taking d), written) .0)
+    by true short written t = stays 9 (λ z. omega arith)
+    by false true written t = stays 10 (λ z. omega arith)
+    by false false written t = takes (ltb-false largest (taking d .«next_packet_num») t)
+
+-- what is made next has the numbers after the payloads made before: once a FIN's number was reserved nothing is made, which is numbered alike from any number
+numbered-next : (closing : Bool) (next n : ℕ) (more : List (List ℕ)) → (closing ≡ false → next ≡ n) → (closing ≡ true → length more ≡ 0)
+    → numberedFrom next more ≡ numberedFrom n more
+unfolding numberedFrom
+numbered-next false next n more same none = rw (same refl)
+numbered-next true next n [] same none = refl
+numbered-next true next n (p ∷ more) same none = absurd (omega (arith, none refl))
+
+length-numbered : (src dst n : ℕ) (ps : List (List ℕ)) → length (numbered src dst n ps) ≡ length ps
+unfolding numbered
+length-numbered src dst n [] = refl
+length-numbered src dst n (p ∷ ps) = ap suc (length-numbered src dst (suc n) ps)
+
+-- the payloads that a packing adds to those made before it
+pub record Packs (s : ℕ) (payloads : List (List ℕ)) (after : SenderSide) : Type 0 where
+  pub more : List (List ℕ)
+  pub keeps : SenderKeeps s (payloads ++ more) after
+
+module _ {s : ℕ} {payloads : List (List ℕ)} {d : SenderSide} (v : SenderKeeps s payloads d) where
+  pub enqueue-keeps : (entries : List (List ℕ)) → SenderKeeps s payloads (enqueued entries d)
+  enqueue-keeps entries = record {
+    made = v .made;
+    filled = v .filled;
+    stream = sym (append-assoc (flatten payloads) (d .queue .bytes) (flatten entries)) ∙ ap (λ (r : List ℕ). r ++ flatten entries) (v .stream);
+    addsUp = rw (sum-append, v .addsUp, sum-lengths) (sym (length-append (d .queue .bytes) (flatten entries)));
+    unclosed = v .unclosed;
+    above = v .above;
+    fits = v .fits;
+  }
+
+  pub pack-well : (src dst : ℕ) (out : List ℕ) → refusal (packing byteLimit (d .queue) (d .next) src dst out .0) ≡ 12 → ⊥
+  pack-well src dst out = by _ (packing-says src dst out d (v .addsUp))
+    where
+      by : (said : Said DataPacked) → Says d said → refusal said ≡ 12 → ⊥
+      by said (takes h) e = omega arith
+      by said (stays n other) e = other e
+
+  pub pack-keeps : (src dst : ℕ) (out : List ℕ) → (d .closing ≡ true → packed src dst out d .made ≡ d .made) → Packs s payloads (packed src dst out d)
+  pack-keeps src dst out fair = by _ (packing-says src dst out d (v .addsUp)) fair
+    where
+      bytes : List ℕ
+      bytes = d .queue .bytes
+
+      more : List (List ℕ)
+      more = payloadsOf byteLimit bytes
+
+      none-made : d .made ++ numbered src dst (d .next) more ≡ d .made → length more ≡ 0
+      none-made e = omega (arith, length-append (d .made) (numbered src dst (d .next) more), ap length e, length-numbered src dst (d .next) more)
+
+      by : (said : Said DataPacked) → Says d said → (d .closing ≡ true → packedBy said src dst d .made ≡ d .made) → Packs s payloads (packedBy said src dst d)
+      by said (stays n other) fair = record { more = []; keeps = rw append-nil v }
+      by said (takes h) fair =
+          let next = numbered-next (d .closing) (d .next) (s + length payloads) more (v .unclosed) (λ c. none-made (fair c)) in
+          record {
+            more = more;
+            keeps = record {
+              made = rw (map-append, v .made, keys-numbered, numberedFrom-append) (ap (λ (r : List (ℕ × List ℕ)). numberedFrom s payloads ++ r) next);
+              filled = all-append _ payloads more (v .filled) (payloads-filled byteLimit bytes);
+              stream = rw (flatten-append, payloads-flatten, append-assoc, take-append-drop) (v .stream);
+              addsUp = left-adds-up byteLimit (d .queue) (v .addsUp);
+              unclosed = λ c. rw (v .unclosed c, length-append, length-payloads) (omega arith);
+              above = rw (length-append, length-payloads) (omega arith);
+              fits = h;
+            };
+          }
+
+  pub reserve-keeps : SenderKeeps s payloads (reservedBy (reserving (d .next)) d)
+  reserve-keeps = by (leb largest (d .next)) refl
+    where
+      by : (exhausted : Bool) → leb largest (d .next) ≡ exhausted
+          → SenderKeeps s payloads (reservedBy (checks ((exhausted, 9) ∷ []) refuses (answers (d .next, d .next + 1))) d)
+      by true t = v
+      by false t =
+          let room = leb-false largest (d .next) t in
+          record {
+            made = v .made;
+            filled = v .filled;
+            stream = v .stream;
+            addsUp = v .addsUp;
+            unclosed = λ c. absurd (let z : _≡_ {A = ℕ} 0 1 = cc in omega arith);
+            above = omega arith;
+            fits = omega arith;
+          }
+
+pub reserve-well : (next : ℕ) → refusal (reserving next) ≡ 12 → ⊥
+reserve-well next = by (leb largest next)
+  where
+    by : (exhausted : Bool) → refusal {A = ℕ × ℕ} (checks ((exhausted, 9) ∷ []) refuses (answers (next, next + 1))) ≡ 12 → ⊥
+    by true e = omega arith
+    by false e = omega arith

@@ -1,0 +1,202 @@
+-- The window's side of the invariant: a fresh window has it and every call on the window keeps it; and what follows of the number expected and of 12.
+-- What a call says and which numbers it leaves held is taken from the window's own laws; here it is joined to what has entered.
+-- Assumes nothing.
+use Prim.Native.Nat.{ℕ, zero, suc, _+_, _-_, _≤_, _<_}
+use mathlib.Core.Path.{_≡_, refl, sym, ap, _∙_}
+use mathlib.Core.Bool.{Bool, true, false, _||_, false≢true, or-true}
+use mathlib.Core.List.{List, [], _++_}
+use mathlib.Core.Option.{Option}
+use native.Mathlib.Nat.{le-of-suc-le-suc, not-suc-le-zero, le-refl}
+use native.Mathlib.Omega.{arith}
+use lib.Dec.{ltb, leb}
+use borrow.Author.Tests.{ltb-true, ltb-false, le-leb, ne-eqb}
+use Rattle.window.specs.Window.{maxNumber, Outcome, expected, window, held, member, wellFormed, numbers, insertPacketNumber, beforeHeld, insertRange, consume}
+use Rattle.window.specs.declared.SlidingWindow.{SlidingWindow}
+use Rattle.window.proofs.Rises.{both, not-below, well-formed}
+use Rattle.window.proofs.Members.{among, member-append, member-numbers}
+use Rattle.window.proofs.Calls as calls
+use Rattle.link.specs.Demand3.{WindowSide, entering, enteringRange, inserted, rangeInserted, expectsAfter, windowConsumed, refusal}
+use Rattle.link.proofs.Invariant.{WindowKeeps}
+
+-- ---- which numbers have entered
+
+member-entering : (n b k : ℕ) (xs : List ℕ) → member n (numbers b k ++ xs) ≡ (among b k n || member n xs)
+member-entering n b k xs = rw (member-append n (numbers b k) xs, member-numbers n b k)
+
+-- how many numbers stand before the first member, told by that one
+before-is : (b k count : ℕ) (xs : List ℕ) → k < count → ((i : ℕ) → i < k → member (b + i) xs ≡ false) → member (b + k) xs ≡ true → beforeHeld b count xs ≡ k
+unfolding beforeHeld
+before-is b k zero xs l f m = absurd (not-suc-le-zero l)
+before-is b zero (suc c) xs l f m = let z : b + 0 ≡ b = omega arith in rw (rw z at m)
+before-is b (suc k) (suc c) xs l f m =
+    let z : b + 0 ≡ b = omega arith in
+    let up : (i : ℕ) → b + suc i ≡ suc b + i = λ i. omega arith in
+    rw (rw z at (f 0 (omega arith)))
+    (ap suc (before-is (suc b) k c xs (le-of-suc-le-suc l) (λ i h. rw (up i) at (f (suc i) (omega arith))) (rw (up k) at m)))
+
+-- ---- what the window's laws leave unsaid
+
+-- a number held is not below the smallest expected
+held-above : (w : SlidingWindow) (cells : List ℕ) (n : ℕ) → wellFormed w cells ≡ true → member n (held w cells) ≡ true → expected w ≤ n
+held-above w cells n h m = by (ltb n (expected w)) refl
+  where
+    by : (t : Bool) → ltb n (expected w) ≡ t → expected w ≤ n
+    by true q = absurd (false≢true (sym (not-below maxNumber (expected w) n (held w cells) (well-formed w cells h .small) (ltb-true n (expected w) q)) ∙ m))
+    by false q = ltb-false n (expected w) q
+
+-- ---- a fresh window
+
+pub window-begins : (s : ℕ) (cells : List ℕ) → WindowKeeps s s (record { state = window s 0; cells = cells; entered = []; expects = s })
+unfolding member
+window-begins s cells = record {
+  good = calls.new-well-formed s cells;
+  expects = refl;
+  from = le-refl s;
+  same = λ n l. calls.new-empty s n cells;
+  passed = λ n l u. absurd (omega arith);
+  inside = λ n m. absurd (false≢true m);
+}
+
+-- a read only moves the first number not taken up
+pub window-extends : {s f g : ℕ} {d : WindowSide} → f ≤ g → WindowKeeps s f d → WindowKeeps s g d
+window-extends l v = record {
+  good = v .good;
+  expects = v .expects;
+  from = v .from;
+  same = v .same;
+  passed = v .passed;
+  inside = λ n m. let u = v .inside n m in omega arith;
+}
+
+module _ {s f : ℕ} {d : WindowSide} (v : WindowKeeps s f d) where
+  -- what is held has entered
+  held-entered : (n : ℕ) → member n (held (d .state) (d .cells)) ≡ true → member n (d .entered) ≡ true
+  held-entered n m = sym (v .same n (held-above (d .state) (d .cells) n (v .good) m)) ∙ m
+
+  -- ---- numbers are stored
+
+  -- where the window's law says that k numbers from b on were added, these have entered
+  adds-keeps : (o : Outcome Unit) (b k : ℕ) → calls.Keeps o → calls.Adds (d .state) (d .cells) o b k → b + k ≤ f
+      → WindowKeeps s f (record { state = o .1; cells = o .2; entered = numbers b k ++ d .entered; expects = d .expects })
+  adds-keeps o b k g a l = record {
+    good = g;
+    expects = v .expects ∙ sym (a .same);
+    from = rw (a .same) (v .from);
+    same = λ n u. a .members n ∙ ap (λ (t : Bool). among b k n || t) (v .same n (rw (a .same) at u)) ∙ sym (member-entering n b k (d .entered));
+    passed = λ n m u. rw (member-entering n b k (d .entered), v .passed n m (rw (a .same) at u)) (or-true (among b k n));
+    inside = λ n m. within n (among b k n) refl (rw (member-entering n b k (d .entered)) at m);
+  }
+    where
+      within : (n : ℕ) (t : Bool) → among b k n ≡ t → (t || member n (d .entered)) ≡ true → n < f
+      within n true q m = let u = ltb-true n (b + k) (both (leb b n) (ltb n (b + k)) q .1) in omega arith
+      within n false q m = v .inside n m
+
+  pub insert-keeps : (n : ℕ) → n < f → WindowKeeps s f (inserted n d)
+  unfolding numbers
+  insert-keeps n l =
+      let law = calls.insert-law (d .state) (d .cells) (v .good) n in
+      by (insertPacketNumber (d .state) (d .cells) n) (law .0) (law .1)
+    where
+      left : Outcome Unit → WindowSide
+      left o = record { state = o .1; cells = o .2; entered = entering (o .0) n (d .entered); expects = d .expects }
+
+      by : (o : Outcome Unit) → calls.Insertion (d .state) (d .cells) n o → calls.Keeps o → WindowKeeps s f (left o)
+      by o (calls.stores q new a) g = rw q (adds-keeps o n 1 g a (omega arith))
+      by o (calls.refusal r q not-12) g = rw q v
+
+  -- at 7 what enters is what was stored: from the smallest expected on, the first that had entered is the first held
+  pub range-keeps : (base count : ℕ) → base + count ≤ f → WindowKeeps s f (rangeInserted base count d)
+  range-keeps base count l =
+      let law = calls.range-law (d .state) (d .cells) (v .good) base count in
+      by (insertRange (d .state) (d .cells) base count) (law .0) (law .1)
+    where
+      left : Outcome Unit → WindowSide
+      left o = record { state = o .1; cells = o .2; entered = enteringRange (o .0) base count (d .entered); expects = d .expects }
+
+      by : (o : Outcome Unit) → calls.RangeInsertion (d .state) (d .cells) base count o → calls.Keeps o → WindowKeeps s f (left o)
+      by o (calls.stores q free a) g = rw q (adds-keeps o base count g a l)
+      by o (calls.stops k u q free m a) g =
+          let none-before : (i : ℕ) → i < k → member (base + i) (d .entered) ≡ false =
+          λ i h. let low = a .above (omega arith) in sym (v .same (base + i) (omega arith)) ∙ free i h in
+          rw (q, before-is base k count (d .entered) u none-before (held-entered (base + k) m)) (adds-keeps o base k g a (omega arith))
+      by o (calls.refusal r q not-7 not-12) g = rw (q, ne-eqb r 7 not-7) v
+
+  -- ---- the run is consumed
+
+  -- the side that a consume leaves which came to o
+  abbrev left-consumed : Outcome (Option (ℕ × ℕ)) → WindowSide
+  left-consumed o = record { state = o .1; cells = o .2; entered = d .entered; expects = expectsAfter (o .0) (d .expects) }
+
+  pub consume-keeps : WindowKeeps s f (windowConsumed d)
+  consume-keeps =
+      let law = calls.consume-law (d .state) (d .cells) (v .good) in
+      by (consume (d .state) (d .cells)) (law .0) (law .1)
+    where
+      by : (o : Outcome (Option (ℕ × ℕ))) → calls.Consumption (d .state) (d .cells) o → calls.Keeps o → WindowKeeps s f (left-consumed o)
+      by o (calls.run last size q any sum up run end kept) g = rw q record {
+        good = g;
+        expects = sym up;
+        from = let low = v .from in omega arith;
+        same = λ n l. kept n ∙ rw (le-leb (last + 1) n (rw up at l)) (v .same n (omega arith));
+        passed = λ n l u. at n l (rw up at u) (ltb n (expected (d .state))) refl;
+        inside = v .inside;
+      }
+        where
+          at : (n : ℕ) → s ≤ n → n < last + 1 → (t : Bool) → ltb n (expected (d .state)) ≡ t → member n (d .entered) ≡ true
+          at n l u true e = v .passed n l (ltb-true n (expected (d .state)) e)
+          at n l u false e = held-entered n (run n (ltb-false n (expected (d .state)) e) (omega arith))
+      by o (calls.nothing q end) g = rw q v
+
+  -- ---- the number expected
+
+  -- the window never passes the first number not taken
+  pub expects-within : s ≤ f → d .expects ≤ f
+  expects-within l = rw (v .expects) (by (ltb s (expected (d .state))) refl)
+    where
+      by : (t : Bool) → ltb s (expected (d .state)) ≡ t → expected (d .state) ≤ f
+      by true q =
+          let some-passed = ltb-true s (expected (d .state)) q in
+          let last = v .inside (expected (d .state) - 1) (v .passed (expected (d .state) - 1) (omega arith) (omega arith)) in
+          omega arith
+      by false q = let none-passed = ltb-false s (expected (d .state)) q in omega arith
+
+  -- all below it has entered, and after a consume it has not itself
+  below-expected : (n : ℕ) → s ≤ n → n < d .expects → member n (d .entered) ≡ true
+  below-expected n l u = v .passed n l (rw (v .expects) at u)
+
+  consume-ends : member (windowConsumed d .expects) (d .entered) ≡ false
+  consume-ends = by (consume (d .state) (d .cells)) (calls.consume-law (d .state) (d .cells) (v .good) .0)
+    where
+      by : (o : Outcome (Option (ℕ × ℕ))) → calls.Consumption (d .state) (d .cells) o → member (expectsAfter (o .0) (d .expects)) (d .entered) ≡ false
+      by o (calls.run last size q any sum up run end kept) = rw q (sym (v .same (last + 1) (omega arith)) ∙ end)
+      by o (calls.nothing q end) = rw (q, v .expects) (sym (v .same (expected (d .state)) (le-refl (expected (d .state)))) ∙ end)
+
+  -- ---- no call answers 12
+
+  pub insert-well : (n : ℕ) → refusal (insertPacketNumber (d .state) (d .cells) n .0) ≡ 12 → ⊥
+  insert-well n = by (insertPacketNumber (d .state) (d .cells) n) (calls.insert-law (d .state) (d .cells) (v .good) n .0)
+    where
+      by : (o : Outcome Unit) → calls.Insertion (d .state) (d .cells) n o → refusal (o .0) ≡ 12 → ⊥
+      by o (calls.stores q new a) e = omega (arith, rw q at e)
+      by o (calls.refusal r q not-12) e = not-12 (rw q at e)
+
+  pub range-well : (base count : ℕ) → refusal (insertRange (d .state) (d .cells) base count .0) ≡ 12 → ⊥
+  range-well base count = by (insertRange (d .state) (d .cells) base count) (calls.range-law (d .state) (d .cells) (v .good) base count .0)
+    where
+      by : (o : Outcome Unit) → calls.RangeInsertion (d .state) (d .cells) base count o → refusal (o .0) ≡ 12 → ⊥
+      by o (calls.stores q free a) e = omega (arith, rw q at e)
+      by o (calls.stops k u q free m a) e = omega (arith, rw q at e)
+      by o (calls.refusal r q not-7 not-12) e = not-12 (rw q at e)
+
+  pub consume-well : refusal (consume (d .state) (d .cells) .0) ≡ 12 → ⊥
+  consume-well = by (consume (d .state) (d .cells)) (calls.consume-law (d .state) (d .cells) (v .good) .0)
+    where
+      by : (o : Outcome (Option (ℕ × ℕ))) → calls.Consumption (d .state) (d .cells) o → refusal (o .0) ≡ 12 → ⊥
+      by o (calls.run last size q any sum up run end kept) e = omega (arith, rw q at e)
+      by o (calls.nothing q end) e = omega (arith, rw q at e)
+
+-- after a consume, also one that answers none, the window expects the first number that has not entered
+pub consume-first : {s f : ℕ} {d : WindowSide} → WindowKeeps s f d →
+    let e = windowConsumed d in
+    ((n : ℕ) → s ≤ n → n < e .expects → member n (e .entered) ≡ true) × (member (e .expects) (e .entered) ≡ false)
+consume-first v = (below-expected (consume-keeps v), consume-ends v)
