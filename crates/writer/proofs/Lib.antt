@@ -3,3 +3,4 @@ pub mod Queue
 pub mod Run
 pub mod Packed
 pub mod Announced
+pub mod Made

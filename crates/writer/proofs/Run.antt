@@ -1,9 +1,9 @@
 -- Bytes written as packets, one packet on: what the loop of `write_packets` has still to write.
 -- Assumes nothing.
-use Prim.Native.Nat.{ℕ, zero, suc, _+_, _-_, _*_, _/_, _<_, _≤_, min}
-use mathlib.Core.Path.{_≡_, refl, sym, ap, _∙_}
+use Prim.Native.Nat.{ℕ, zero, suc, _+_, _-_, _*_, _<_, _≤_, min}
+use mathlib.Core.Path.{_≡_, refl, ap, _∙_}
 use mathlib.Core.Bool.{false}
-use mathlib.Core.List.{List, [], _∷_, _++_}
+use mathlib.Core.List.{List, [], _++_}
 use native.Mathlib.Omega.{arith}
 use native.Mathlib.Numerals.{add-one}
 use lib.ListN.{length, take, drop, length-append, length-take, length-drop}
@@ -15,7 +15,7 @@ use Rattle.header.specs.declared.PacketType.the-variants.{UnencryptedData}
 use Rattle.header.specs.declared.BluefinSecurityFields.{BluefinSecurityFields}
 use Rattle.header.specs.declared.BluefinHeader.{BluefinHeader}
 use Rattle.header.proofs.Trip.{length-header}
-use Rattle.packet.specs.Packet.{Packet, packetBytes, joined}
+use Rattle.packet.specs.Packet.{packetBytes, joined}
 use Rattle.packet.proofs.Alone.{length-packet}
 use Rattle.writer.specs.Packing.{largest, payloadSize, packetsFor, cut, dataPacket, numbered}
 
@@ -43,15 +43,15 @@ packets-none : packetsFor 0 ≡ 0
 unfolding payloadSize
 packets-none = refl
 
-pub packets-next : (q : ℕ) → 0 < q → packetsFor q ≡ suc (packetsFor (q - payloadSize))
+packets-next : (q : ℕ) → 0 < q → packetsFor q ≡ suc (packetsFor (q - payloadSize))
 unfolding payloadSize
 packets-next q some = omega arith
 
-packets-zero : (q : ℕ) → packetsFor q ≡ 0 → q ≡ 0
+pub packets-zero : (q : ℕ) → packetsFor q ≡ 0 → q ≡ 0
 unfolding payloadSize
 packets-zero q e = omega arith
 
-packets-suc : (q k : ℕ) → packetsFor q ≡ suc k → packetsFor (q - payloadSize) ≡ k
+pub packets-suc : (q k : ℕ) → packetsFor q ≡ suc k → packetsFor (q - payloadSize) ≡ k
 unfolding payloadSize
 packets-suc q k e = omega arith
 
@@ -64,7 +64,7 @@ module _ (src dst n k : ℕ) (s : List ℕ) where
   unfolding joined numbered cut
   run-next = refl
 
-  pub length-packet-next : (size : ℕ) → length (packetBytes (dataPacket src dst n (take size s))) ≡ 20 + min size (length s)
+  length-packet-next : (size : ℕ) → length (packetBytes (dataPacket src dst n (take size s))) ≡ 20 + min size (length s)
   length-packet-next size = length-packet _ (take size s) ∙ rw length-take
 
 pub length-run : (src dst n k : ℕ) (s : List ℕ) → packetsFor (length s) ≡ k → length (run src dst n k s) ≡ length s + 20 * k
@@ -80,7 +80,7 @@ abbrev pub allOf : ℕ → ℕ → ℕ → List ℕ → List ℕ
 allOf src dst n s = run src dst n (packetsFor (length s)) s
 
 module _ (src dst n : ℕ) (s : List ℕ) where
-  pub length-all : length (allOf src dst n s) ≡ length s + 20 * packetsFor (length s)
+  length-all : length (allOf src dst n s) ≡ length s + 20 * packetsFor (length s)
   length-all = length-run src dst n (packetsFor (length s)) s refl
 
   all-next : 0 < length s → allOf src dst n s ≡ packetBytes (dataPacket src dst n (take payloadSize s)) ++ allOf src dst (n + 1) (drop payloadSize s)

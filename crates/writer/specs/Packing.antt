@@ -1,6 +1,6 @@
 -- Packing queued data into a datagram: document 01, "From the queue to a datagram", its first paragraph. Reference: `consume_data_into`.
 use Prim.Native.Nat.{ℕ, zero, suc, _+_, _-_, _*_, _/_, min}
-use mathlib.Core.Bool.{Bool, false, not, cond}
+use mathlib.Core.Bool.{false, not, cond}
 use mathlib.Core.List.{List, [], _∷_}
 use lib.ListN.{length, take, drop}
 use lib.Seq.{paste}
@@ -75,6 +75,18 @@ removal (suc q) (l ∷ ls) = cond (leb l (suc q)) (suc (removal (suc q - l) ls .
 -- "If T is below 15,000, all entries go, empty ones too."
 abbrev pub removed : ℕ → Queue → ℕ × ℕ
 removed limit queue = cond (ltb (length (queue .bytes)) limit) (length (queue .lengths), 0) (removal (bytesTaken limit (length (queue .bytes))) (queue .lengths))
+
+-- bytes cut from the first entry
+unfoldable pub shortened : ℕ → List ℕ → List ℕ
+shortened n [] = []
+shortened n (l ∷ ls) = (l - n) ∷ ls
+
+-- "each packing removes exactly what it answers": the queue that it leaves
+abbrev pub remaining : ℕ → Queue → Queue
+remaining limit queue = record {
+  bytes = drop (bytesTaken limit (length (queue .bytes))) (queue .bytes);
+  lengths = shortened (removed limit queue .1) (drop (removed limit queue .0) (queue .lengths));
+}
 
 unfoldable pub sum : List ℕ → ℕ
 sum [] = 0

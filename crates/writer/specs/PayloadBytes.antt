@@ -1,5 +1,5 @@
 -- The payload bytes that a datagram's headers announce: document 01, "From a datagram to packets", its last paragraph. Reference: `payload_bytes_in_datagram`.
-use Prim.Native.Nat.{ℕ, zero, suc, _+_, _-_}
+use Prim.Native.Nat.{ℕ, zero, suc, _+_}
 use mathlib.Core.Bool.{cond, _||_}
 use mathlib.Core.List.{List}
 use lib.ListN.{length}
