@@ -9,16 +9,17 @@ use native.Mathlib.Omega.{arith}
 use lib.ListN.{length, take, drop, length-append}
 use lib.Seq.{paste, length-take-le}
 use lib.Dec.{eqb, ltb}
-use borrow.Author.Tests.{ltb-true}
+use borrow.Author.Tests.{ltb-true, lt-ltb, le-ltb}
 use Rattle.refusal.specs.Said.{Said, answers, refuses}
 use Rattle.lists.proofs.Paste.{paste-behind}
 use Rattle.lists.proofs.Cut.{take-cut, drop-cut, paste-part}
-use Rattle.ordered_bytes.specs.Receiver.{Walk, largest, walk, payloads, numbersFit, carryPart, carryAndPackets, base}
+use Rattle.ordered_bytes.specs.Receiver.{largest, walk, payloads, numbersFit, base, consumed}
 use Rattle.ordered_bytes.specs.Buffer.{Buffer, slots, width, view, taken}
 use Rattle.ordered_bytes.specs.Calls.{given}
 use Rattle.ordered_bytes.proofs.WellFormed.{Good, is-fits}
-use Rattle.ordered_bytes.proofs.View.{length-carry, length-held, store-long}
-use Rattle.ordered_bytes.proofs.Walk.{walked, payloads-most}
+use Rattle.ordered_bytes.proofs.Ring.{either}
+use Rattle.ordered_bytes.proofs.View.{length-carry, store-long}
+use Rattle.ordered_bytes.proofs.Walk.{consumed-part, consumed-whole, consumed-took}
 
 -- ---- the numbers of taken packets are below the largest
 
@@ -37,13 +38,8 @@ module _ {b : Buffer} (g : Good b) where
   pub payloads-fit : (k : ℕ) → b .state .«front_number» ≤ largest → b .state .«front_number» + length (payloads k (view b .held)) ≤ largest
   payloads-fit k l = fit-payloads (b .state .«front_number») k (view b .held) l (is-fits (b .state .«front_number») (view b .held) (g .numbers))
 
-  pub walk-fits : (room : ℕ) → b .state .«front_number» ≤ largest → b .state .«front_number» + walk room (view b .held) .packets ≤ largest
-  walk-fits room l = rw (walked room (view b .held) .were) at (payloads-fit (walk room (view b .held) .packets) l)
-
-  pub walk-few : (room : ℕ) → walk room (view b .held) .packets ≤ slots b
-  walk-few room =
-      let k = walk room (view b .held) .packets in
-      omega (arith, payloads-most k (view b .held) .1, walked room (view b .held) .were, length-held b)
+  pub consumed-fits : (len : ℕ) → b .state .«front_number» ≤ largest → b .state .«front_number» + consumed (view b) len .packets ≤ largest
+  consumed-fits len l = rw (consumed-took (view b) len .were) at (payloads-fit (consumed (view b) len .packets) l)
 
   -- ---- the carry-over
 
@@ -58,20 +54,6 @@ module _ {b : Buffer} (g : Good b) where
   carry-pasted : (out : List ℕ) → paste out 0 (drop (slots b * width b) (b .store)) (b .state .«carry_len») ≡ paste out 0 (view b .carry) (length (view b .carry))
   carry-pasted out = paste-part out (drop (slots b * width b) (b .store)) (view b .carry) 0 (b .state .«carry_len») (sym view-carry) (length-carry g)
 
-  -- "A carry-over longer than the length gives that many bytes"
-  pub part-given : (len : ℕ) (out : List ℕ) {out′ : List ℕ} {after : Buffer} → len < b .state .«carry_len»
-      → out′ ≡ paste out 0 (drop (slots b * width b) (b .store)) len
-      → after ≡ taken b 0 (take (b .state .«carry_len» - len) (drop (slots b * width b + len) (b .store)))
-      → record { said = answers (0, 0, len); buffer = after; out = out′ } ≡ given b (carryPart (view b) len) out
-  part-given len out less pasted left =
-      let at = slots b * width b in
-      let part : min (b .state .«carry_len») len ≡ len = omega arith in
-      let bytes : take len (drop at (b .store)) ≡ take len (view b .carry) = sym (rw (view-carry, take-cut len (b .state .«carry_len») (drop at (b .store)), part)) in
-      let long : length (take len (view b .carry)) ≡ len = length-take-le len (view b .carry) (rw (length-carry g) (omega arith)) in
-      let rest : take (b .state .«carry_len» - len) (drop (at + len) (b .store)) ≡ drop len (view b .carry) =
-      sym (rw (view-carry, drop-cut len (b .state .«carry_len») at (b .store), part)) in
-      rw (left, rest, pasted ∙ paste-part out (drop at (b .store)) (take len (view b .carry)) 0 len bytes long, long)
-
   -- the carry-over whole, and x behind it
   pub carry-then : (x out : List ℕ) {out₁ out′ : List ℕ} → b .state .«carry_len» ≤ length out
       → out₁ ≡ paste out 0 (drop (slots b * width b) (b .store)) (b .state .«carry_len»)
@@ -80,19 +62,62 @@ module _ {b : Buffer} (g : Good b) where
   carry-then x out room first then =
       then ∙ rw (first ∙ carry-pasted out) (paste-behind out (view b .carry) x 0 (b .state .«carry_len») (omega (arith, length-carry g)) room)
 
+-- ---- `consume`
+
+-- what a read of `len` bytes has copied: packets, bytes, the output, and where in the store what it carries over stands
+abbrev pub ReadBytes : Buffer → ℕ → List ℕ → List ℕ → ℕ → ℕ → ℕ → ℕ → Type 0
+ReadBytes b len out out′ k n at rest =
+    (k ≡ consumed (view b) len .packets)
+    × ((n ≡ length (consumed (view b) len .bytes))
+    × ((out′ ≡ paste out 0 (consumed (view b) len .bytes) n)
+    × ((take rest (drop at (b .store)) ≡ consumed (view b) len .carry) × ((at + rest ≤ length (b .store)) × (rest ≤ width b)))))
+
+module _ {b : Buffer} (g : Good b) (len : ℕ) (out : List ℕ) where
+  -- "A carry-over longer than the length gives that many bytes"
+  pub part-read : {out′ : List ℕ} {part : ℕ} → len < b .state .«carry_len» → part ≡ min (b .state .«carry_len») len
+      → out′ ≡ paste out 0 (drop (slots b * width b) (b .store)) part
+      → ReadBytes b len out out′ 0 len (slots b * width b + len) (b .state .«carry_len» - len)
+  part-read {out′} {part} less cut pasted =
+      let at = slots b * width b in
+      let some : min (b .state .«carry_len») len ≡ len = omega arith in
+      let all : part ≡ len = cut ∙ some in
+      let bytes : take len (drop at (b .store)) ≡ take len (view b .carry) = sym (rw (view-carry g, take-cut len (b .state .«carry_len») (drop at (b .store)), some)) in
+      let long : length (take len (view b .carry)) ≡ len = length-take-le len (view b .carry) (rw (length-carry g) (omega arith)) in
+      let rest : take (b .state .«carry_len» - len) (drop (at + len) (b .store)) ≡ drop len (view b .carry) =
+      sym (rw (view-carry g, drop-cut len (b .state .«carry_len») at (b .store), some)) in
+      let gave : out′ ≡ paste out 0 (take len (view b .carry)) len =
+      rw all at pasted ∙ paste-part out (drop at (b .store)) (take len (view b .carry)) 0 len bytes long ∙ ap (paste out 0 (take len (view b .carry))) long in
+      rw (consumed-part (view b) len (rw (length-carry g) less))
+      (refl, (sym long, (gave, (rest, (omega (arith, carry-in g), omega (arith, g .carry-w))))))
+
   -- "Otherwise the carry-over is taken whole, then held packets"
-  pub packets-given : (w : Walk) (out : List ℕ) {k n from : ℕ} {rest : List ℕ} {said : Said (ℕ × ℕ × ℕ)} {out₁ out′ : List ℕ} {after : Buffer}
-      → b .state .«carry_len» ≤ length out
-      → k ≡ w .packets
-      → n ≡ length (w .bytes)
-      → rest ≡ w .rest
+  pub whole-read : (at rest : ℕ) {out₁ out′ : List ℕ} {part k n : ℕ} → b .state .«carry_len» ≤ len → len ≤ length out → part ≡ min (b .state .«carry_len») len
+      → out₁ ≡ paste out 0 (drop (slots b * width b) (b .store)) part
+      → let w = walk (len - b .state .«carry_len») (view b .held) in
+      (k ≡ w .packets) × ((n ≡ length (w .bytes)) × ((out′ ≡ paste out₁ (b .state .«carry_len») (w .bytes) n)
+      × ((take rest (drop at (b .store)) ≡ w .rest) × ((at + rest ≤ length (b .store)) × (rest ≤ width b)))))
+      → ReadBytes b len out out′ k (b .state .«carry_len» + n) at rest
+  whole-read at rest {out₁} {out′} {part} {k} {n} whole room cut first w =
+      let c = b .state .«carry_len» in
+      let x = walk (len - c) (view b .held) .bytes in
+      let all : part ≡ c = omega arith in
+      let long : c + n ≡ length (view b .carry ++ x) = sym (rw (length-append, length-carry g, w .1 .0)) in
+      let gave : out′ ≡ paste out 0 (view b .carry ++ x) (length (view b .carry ++ x)) =
+      carry-then g x out (omega arith) (rw all at first) (w .1 .1 .0 ∙ ap (paste out₁ c x) (w .1 .0)) in
+      rw (consumed-whole (view b) len (rw (length-carry g) whole), length-carry g)
+      (w .0, (long, (gave ∙ ap (paste out 0 (view b .carry ++ x)) (sym long), w .1 .1 .1)))
+
+  -- the answer, the buffer and the output
+  pub read-given : {k n from : ℕ} {rest : List ℕ} {said : Said (ℕ × ℕ × ℕ)} {out′ : List ℕ} {after : Buffer}
+      → k ≡ consumed (view b) len .packets
+      → n ≡ length (consumed (view b) len .bytes)
+      → rest ≡ consumed (view b) len .carry
       → from ≡ base (view b)
-      → said ≡ cond (eqb (b .state .«carry_len» + n) 0) (refuses 8) (answers (k, from, b .state .«carry_len» + n))
-      → out₁ ≡ paste out 0 (drop (slots b * width b) (b .store)) (b .state .«carry_len»)
-      → out′ ≡ paste out₁ (b .state .«carry_len») (w .bytes) n
+      → said ≡ cond (ltb len (b .state .«carry_len»)) (answers (k, 0, n)) (cond (eqb n 0) (refuses 8) (answers (k, from, n)))
+      → out′ ≡ paste out 0 (consumed (view b) len .bytes) n
       → after ≡ taken b k rest
-      → record { said = said; buffer = after; out = out′ } ≡ given b (carryAndPackets (view b) w) out
-  packets-given w out {n = n} {out₁ = out₁} room packets bytes split based say first then left =
-      let long : length (view b .carry ++ w .bytes) ≡ b .state .«carry_len» + n = rw (length-append, length-carry g, bytes) in
-      let whole = carry-then (w .bytes) out room first (then ∙ ap (paste out₁ (b .state .«carry_len») (w .bytes)) bytes) in
-      rw (left, whole, say, packets, split, based, ← long)
+      → record { said = said; buffer = after; out = out′ } ≡ given b (consumed (view b) len) out
+  read-given packets bytes kept based say gave left =
+      either (b .state .«carry_len») len
+      (λ whole. rw (left, gave, say, packets, bytes, kept, based, le-ltb len (b .state .«carry_len») whole, consumed-whole (view b) len (let z : length (view b .carry) ≤ len = rw (length-carry g) whole in z)))
+      (λ part. rw (left, gave, say, packets, bytes, kept, based, lt-ltb len (b .state .«carry_len») part, consumed-part (view b) len (let z : len < length (view b .carry) = rw (length-carry g) part in z)))

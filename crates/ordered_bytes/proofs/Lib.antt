@@ -2,12 +2,12 @@ pub mod WellFormed
 pub mod Ring
 pub mod View
 pub mod Walk
-pub mod Places
-pub mod Tests
-pub mod Loops
 pub mod Outcome
 pub mod Kept
 pub mod Reading
+pub mod Places
+pub mod Tests
+pub mod Loops
 pub mod Payloads
 pub mod Taken
 pub mod Given

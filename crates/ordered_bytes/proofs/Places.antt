@@ -4,11 +4,11 @@ use Prim.Native.Nat.{ℕ, _+_, _-_, _<_}
 use mathlib.Core.Path.{_≡_, refl, sym, ap, _∙_}
 use mathlib.Core.Bool.{Bool, true, false, cond}
 use mathlib.Core.Option.{none, some}
-use mathlib.Core.List.{List}
+use mathlib.Core.List.{List, []}
 use native.Mathlib.Omega.{arith}
 use lib.ListN.{getD}
 use Rattle.ordered_bytes.specs.Receiver.{isHeld, placeAt, base}
-use Rattle.ordered_bytes.specs.Buffer.{Buffer, slots, width, slotAt, view}
+use Rattle.ordered_bytes.specs.Buffer.{Buffer, bufferOf, slots, width, slotAt, view}
 use Rattle.ordered_bytes.proofs.WellFormed.{Good}
 use Rattle.ordered_bytes.proofs.Ring.{wrap-zero}
 use Rattle.ordered_bytes.proofs.View.{held-at}
@@ -42,3 +42,7 @@ module _ {b : Buffer} (g : Good b) where
 
   pub front-mark : isHeld (placeAt (view b) 0) ≡ getD (b .marks) (b .state .«front_slot») false
   front-mark = mark-at b (g .shape .some-slots) ∙ ap (λ (i : ℕ). getD (b .marks) i false) front-at
+
+  -- the marks alone say the base
+  pub base-by-marks : base (view b) ≡ base (view (bufferOf (b .state) (b .marks) [] []))
+  base-by-marks = base-at b (g .front-n) ∙ sym (base-at (bufferOf (b .state) (b .marks) [] []) (g .front-n))

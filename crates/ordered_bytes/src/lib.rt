@@ -249,10 +249,13 @@ pub fn consume_unchecked(
             answer: ConsumeAnswer::Refused(Refusal::BufferShort),
         };
     }
-    if len < o.carry_len {
-        return stream::consume_carry(o, len, buf, marks, lengths, store);
+    let base = front::base_packet_number(o, marks);
+    let w = stream::read_bytes(o, len, buf, marks, lengths, store);
+    let state = front::take_packets(o, w.packets, w.rest_at, w.rest, marks, lengths, store);
+    Consumed {
+        state: state,
+        answer: stream::consume_answer(o.carry_len, len, w.packets, base, w.bytes),
     }
-    stream::consume_packets(o, len, buf, marks, lengths, store)
 }
 
 // net/ordered_bytes.rs, OrderedBytes::consume_bytes. The pieces are copied to `buf` end to end, their lengths to `list`.

@@ -2,28 +2,26 @@
 // Ports `consume` of net/ordered_bytes.rs; document 01, "From packets to the reader".
 ghost use mathlib.Core.Path.{_≡_};
 ghost use mathlib.Core.Bool.{true, cond};
-ghost use Prim.Native.Nat.{_+_, _-_, _≤_, _<_, min};
+ghost use Prim.Native.Nat.{_+_, _≤_, min};
 ghost use lib.ListN.{length, take, drop};
 ghost use lib.Seq.{paste};
-ghost use lib.Dec.{eqb};
+ghost use lib.Dec.{ltb, eqb};
 ghost use Rattle.refusal.specs.Said.{answers, refuses};
-ghost use Rattle.ordered_bytes.specs.Receiver.{walk, carryPart, carryAndPackets};
+ghost use Rattle.ordered_bytes.specs.Receiver.{walk, consumed};
 ghost use Rattle.ordered_bytes.specs.Buffer.{bufferOf, view, wellFormed};
-ghost use Rattle.ordered_bytes.specs.Calls.{consumedSays, given};
+ghost use Rattle.ordered_bytes.specs.Calls.{consumedSays};
 use crate::ConsumeAnswer;
 use crate::ConsumeResult;
-use crate::Consumed;
 use crate::OrderedBytes;
-use crate::front;
 use crate::slots;
 use refusal::Refusal;
 
 // What a walk took: packets, bytes given, and where in the store the rest of a split packet stands and how long it is.
-struct Walked {
-    packets: usize,
-    bytes: usize,
-    rest_at: usize,
-    rest: usize,
+pub struct Walked {
+    pub packets: usize,
+    pub bytes: usize,
+    pub rest_at: usize,
+    pub rest: usize,
 }
 
 fn smaller(a: usize, b: usize) -> usize
@@ -74,10 +72,59 @@ fn walk_packets(
     }
 }
 
-// "If no byte was given: 8". The one place that decides it.
-fn consume_answer(packets: usize, base: u64, bytes: usize) -> ConsumeAnswer
-    ensures { λ r. ⌜ consumedSays r ≡ cond (eqb bytes 0) (refuses 8) (answers (packets, base, bytes)) ⌝ }
+// A carry-over longer than the length gives its first bytes; otherwise it goes whole, and held packets follow.
+pub fn read_bytes(
+    o: OrderedBytes,
+    len: usize,
+    buf: &mut [u8],
+    marks: &[bool],
+    lengths: &[u32],
+    store: &[u8],
+) -> Walked
+    requires { ⌜ (wellFormed (bufferOf o (now marks) (now lengths) (now store)) ≡ true) × (len ≤ length (now buf)) ⌝ }
+    ensures { λ r. ⌜ r .packets ≡ consumed (view (bufferOf o (now (marks .entry)) (now (lengths .entry)) (now (store .entry)))) len .packets ⌝ }
+    ensures { λ r. ⌜ r .bytes ≡ length (consumed (view (bufferOf o (now (marks .entry)) (now (lengths .entry)) (now (store .entry)))) len .bytes) ⌝ }
+    ensures { λ r. ⌜ now (buf .exit) ≡ paste (now (buf .entry)) 0 (consumed (view (bufferOf o (now (marks .entry)) (now (lengths .entry)) (now (store .entry)))) len .bytes) (r .bytes) ⌝ }
+    ensures { λ r. ⌜ take (r .rest) (drop (r .«rest_at») (now (store .entry))) ≡ consumed (view (bufferOf o (now (marks .entry)) (now (lengths .entry)) (now (store .entry)))) len .carry ⌝ }
+    ensures { λ r. ⌜ (r .«rest_at» + r .rest ≤ length (now (store .entry))) × (r .rest ≤ o .«slot_width») ⌝ }
 {
+    let carry_len = o.carry_len;
+    let carry_at = marks.len() * o.slot_width;
+    parts::copy_part(store, carry_at, smaller(carry_len, len), buf, 0);
+    if len < carry_len {
+        return Walked {
+            packets: 0,
+            bytes: len,
+            rest_at: carry_at + len,
+            rest: carry_len - len,
+        };
+    }
+    let w = walk_packets(o, len - carry_len, buf, carry_len, marks, lengths, store);
+    Walked {
+        packets: w.packets,
+        bytes: carry_len + w.bytes,
+        rest_at: w.rest_at,
+        rest: w.rest,
+    }
+}
+
+// "A carry-over longer than the length .. answers (0 packets, base 0, length)", and "if no byte was given: 8". The one place that decides it.
+pub fn consume_answer(
+    carry_len: usize,
+    len: usize,
+    packets: usize,
+    base: u64,
+    bytes: usize,
+) -> ConsumeAnswer
+    ensures { λ r. ⌜ consumedSays r ≡ cond (ltb len «carry_len») (answers (packets, 0, bytes)) (cond (eqb bytes 0) (refuses 8) (answers (packets, base, bytes))) ⌝ }
+{
+    if len < carry_len {
+        return ConsumeAnswer::Given(ConsumeResult {
+            num_packets_consumed: packets,
+            base_packet_number: 0,
+            bytes_consumed: bytes as u64,
+        });
+    }
     if bytes == 0 {
         return ConsumeAnswer::Refused(Refusal::Empty);
     }
@@ -86,63 +133,4 @@ fn consume_answer(packets: usize, base: u64, bytes: usize) -> ConsumeAnswer
         base_packet_number: base,
         bytes_consumed: bytes as u64,
     })
-}
-
-// A carry-over longer than the length: its first bytes go, its rest moves to the start.
-pub fn consume_carry(
-    o: OrderedBytes,
-    len: usize,
-    buf: &mut [u8],
-    marks: &mut [bool],
-    lengths: &mut [u32],
-    store: &mut [u8],
-) -> Consumed
-    requires { ⌜ wellFormed (bufferOf o (now marks) (now lengths) (now store)) ≡ true ⌝ }
-    requires { ⌜ (len < o .«carry_len») × (len ≤ length (now buf)) ⌝ }
-    ensures { λ r. ⌜ record { said = consumedSays (r .answer); buffer = bufferOf (r .state) (now (marks .exit)) (now (lengths .exit)) (now (store .exit)); out = now (buf .exit) } ≡ given (bufferOf o (now (marks .entry)) (now (lengths .entry)) (now (store .entry))) (carryPart (view (bufferOf o (now (marks .entry)) (now (lengths .entry)) (now (store .entry)))) len) (now (buf .entry)) ⌝ }
-{
-    let carry_at = marks.len() * o.slot_width;
-    parts::copy_part(store, carry_at, len, buf, 0);
-    let state = front::take_packets(
-        o,
-        0,
-        carry_at + len,
-        o.carry_len - len,
-        marks,
-        lengths,
-        store,
-    );
-    Consumed {
-        state: state,
-        answer: ConsumeAnswer::Given(ConsumeResult {
-            num_packets_consumed: 0,
-            base_packet_number: 0,
-            bytes_consumed: len as u64,
-        }),
-    }
-}
-
-// The carry-over whole, then held packets.
-pub fn consume_packets(
-    o: OrderedBytes,
-    len: usize,
-    buf: &mut [u8],
-    marks: &mut [bool],
-    lengths: &mut [u32],
-    store: &mut [u8],
-) -> Consumed
-    requires { ⌜ wellFormed (bufferOf o (now marks) (now lengths) (now store)) ≡ true ⌝ }
-    requires { ⌜ (o .«carry_len» ≤ len) × (len ≤ length (now buf)) ⌝ }
-    ensures { λ r. ⌜ record { said = consumedSays (r .answer); buffer = bufferOf (r .state) (now (marks .exit)) (now (lengths .exit)) (now (store .exit)); out = now (buf .exit) } ≡ given (bufferOf o (now (marks .entry)) (now (lengths .entry)) (now (store .entry))) (carryAndPackets (view (bufferOf o (now (marks .entry)) (now (lengths .entry)) (now (store .entry)))) (walk (len - o .«carry_len») (view (bufferOf o (now (marks .entry)) (now (lengths .entry)) (now (store .entry))) .held))) (now (buf .entry)) ⌝ }
-{
-    let carry_len = o.carry_len;
-    let carry_at = marks.len() * o.slot_width;
-    let base = front::base_packet_number(o, marks);
-    parts::copy_part(store, carry_at, carry_len, buf, 0);
-    let w = walk_packets(o, len - carry_len, buf, carry_len, marks, lengths, store);
-    let state = front::take_packets(o, w.packets, w.rest_at, w.rest, marks, lengths, store);
-    Consumed {
-        state: state,
-        answer: consume_answer(w.packets, base, carry_len + w.bytes),
-    }
 }

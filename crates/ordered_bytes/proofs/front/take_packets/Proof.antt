@@ -22,7 +22,7 @@ move-part-requires c κs =
     let s = c .before .before .before .before in
     let g = facts s in
     let few = s .pre .1 in
-    (omega (arith, g .shape .small-width), few .2, omega (arith, store-long g))
+    (omega (arith, g .shape .small-width), omega (arith, few .2), omega (arith, store-long g))
 
 take-slots-requires : tie.Need-take-slots-requires
 take-slots-requires c κs =

@@ -1,16 +1,16 @@
 -- `ordered_bytes::pieces::give_pieces` meets its contract. Assumes nothing.
-use Prim.Native.Nat.{_+_, _≤_, zero-le}
-use mathlib.Core.Path.{_≡_, sym, _∙_}
-use mathlib.Core.List.{[], _++_, flatten}
+use Prim.Native.Nat.{zero-le}
+use mathlib.Core.Path.{sym, _∙_}
+use mathlib.Core.List.{_++_, flatten}
 use native.Mathlib.Omega.{arith}
-use lib.ListN.{length, length-append}
+use lib.ListN.{length-append}
 use borrow.Author.Needs.{needs}
-use Rattle.ordered_bytes.specs.Receiver.{payloads, carryPiece, base}
+use Rattle.ordered_bytes.specs.Receiver.{payloads, carryPiece}
 use Rattle.ordered_bytes.specs.Buffer.{Buffer, bufferOf, view}
 use Rattle.ordered_bytes.proofs.WellFormed.{Good, good}
 use Rattle.ordered_bytes.proofs.View.{length-carry, length-held}
 use Rattle.ordered_bytes.proofs.Walk.{payloads-most}
-use Rattle.ordered_bytes.proofs.Places.{base-at}
+use Rattle.ordered_bytes.proofs.Places.{base-by-marks}
 use Rattle.ordered_bytes.proofs.Given.{payloads-fit}
 use Rattle.ordered_bytes.proofs.Gathered.{carry-count, pieces-given}
 use Rattle.ordered_bytes.proofs.pieces.give_pieces.Statement.{statement}
@@ -68,8 +68,7 @@ returns c =
     let b = entry s in
     let p = s .pre .1 in
     let ps = payloads (s .args .p .packets) (view b .held) in
-    let based : first .base-packet-number .result ≡ base (view b) =
-    first .base-packet-number .ensures ∙ base-at (bufferOf (s .args .o) (s .args .marks .now) [] []) (facts s .front-n) ∙ sym (base-at b (facts s .front-n)) in
+    let based = first .base-packet-number .ensures ∙ sym (base-by-marks (facts s)) in
     pieces-given b (s .args .buf .now) (s .args .list .now) (view b .carry ++ flatten ps) (carryPiece (view b .carry) ++ ps) based (p .1 .1) (p .1 .0)
     (left .take-packets .ensures) (gave .copy-pieces .ensures .0) (gave .copy-pieces .ensures .1)
 

@@ -1,14 +1,16 @@
 -- `ordered_bytes::stream::consume_answer` meets its contract. Assumes nothing.
-use borrow.Author.Needs.{needs}
-use borrow.Author.Tests.{eq-eqb, ne-eqb}
+use borrow.Author.Tests.{lt-ltb, le-ltb, eq-eqb, ne-eqb}
 use Rattle.ordered_bytes.proofs.stream.consume_answer.Statement.{statement}
 use Rattle.ordered_bytes.proofs.stream.consume_answer.Tie as tie
 
 returns : tie.Need-returns
-returns c = simp (eq-eqb _ _ (c .if1 .taken))
+returns c = simp (lt-ltb _ _ (c .if1 .taken))
 
 returns-2 : tie.Need-returns-2
-returns-2 c = simp (ne-eqb _ _ (c .if1 .left))
+returns-2 c = simp (le-ltb _ _ (c .before .if1 .left), eq-eqb _ _ (c .if2 .taken))
+
+returns-3 : tie.Need-returns-3
+returns-3 c = simp (le-ltb _ _ (c .before .if1 .left), ne-eqb _ _ (c .if2 .left))
 
 pub consume-answer-spec : {M : Type 1} → statement M
-consume-answer-spec = tie.close (tie.spec returns returns-2)
+consume-answer-spec = tie.close (tie.spec returns returns-2 returns-3)
