@@ -11,7 +11,7 @@ use lib.Dec.{eqb, eqb·suc-zero}
 use Rattle.refusal.specs.Said.{answers}
 use Rattle.lists.proofs.Cut.{paste-cons}
 use Rattle.ordered_bytes.specs.Receiver.{payloads, carryPiece, takenPayloads, pieces, base, consumedPieces}
-use Rattle.ordered_bytes.specs.Buffer.{Buffer, slots, view, taken}
+use Rattle.ordered_bytes.specs.Buffer.{Buffer, view, taken}
 use Rattle.ordered_bytes.specs.Calls.{PieceConsumption}
 use Rattle.ordered_bytes.proofs.WellFormed.{Good}
 use Rattle.ordered_bytes.proofs.View.{length-carry}

@@ -1,6 +1,6 @@
 -- The loops over the slots: from one slot to the next, and what a turn of a read takes.
 -- Assumes nothing.
-use Prim.Native.Nat.{ℕ, zero, suc, _+_, _-_, _*_, _≤_, _<_, min, zero-le}
+use Prim.Native.Nat.{ℕ, suc, _+_, _-_, _*_, _≤_, _<_, min, zero-le}
 use mathlib.Core.Path.{_≡_, refl, sym, ap, _∙_}
 use mathlib.Core.Bool.{true, false}
 use mathlib.Core.Logic.{_⊎_, inl, inr}
@@ -13,7 +13,7 @@ use lib.Seq.{paste, paste-zero, take-all, length-paste}
 use Rattle.lists.proofs.Paste.{length-part, paste-behind}
 use Rattle.lists.proofs.Cut.{take-cut, drop-cut, paste-part}
 use Rattle.ordered_bytes.specs.Receiver.{Walk, walk, nothing}
-use Rattle.ordered_bytes.specs.Buffer.{Buffer, slots, width, wrap, slotAt, inSlot, view}
+use Rattle.ordered_bytes.specs.Buffer.{Buffer, slots, width, wrap, slotAt, view}
 use Rattle.ordered_bytes.proofs.WellFormed.{Good}
 use Rattle.ordered_bytes.proofs.Ring.{either, wrap-on}
 use Rattle.ordered_bytes.proofs.Places.{front-at}

@@ -1,6 +1,6 @@
 -- What each call of the receive buffer says and leaves, on every input: decode the lent lists, apply document 01's rule, write the change back.
 use Prim.Native.Nat.{ℕ, _-_}
-use mathlib.Core.Bool.{Bool, true, false, not, cond}
+use mathlib.Core.Bool.{Bool, false, not, cond}
 use mathlib.Core.List.{List, [], _∷_, map}
 use lib.ListN.{length, replicate}
 use lib.Seq.{paste}
@@ -21,7 +21,7 @@ use Rattle.ordered_bytes.specs.declared.ConsumeAnswer.{ConsumeAnswer}
 use Rattle.ordered_bytes.specs.declared.ConsumeAnswer.the-variants as consume
 use Rattle.ordered_bytes.specs.declared.ConsumeBytesAnswer.{ConsumeBytesAnswer}
 use Rattle.ordered_bytes.specs.declared.ConsumeBytesAnswer.the-variants as consumeBytes
-use Rattle.ordered_bytes.specs.Receiver.{Receiver, Read, acceptChecks, consumed, consumedPieces, pieces, available, anyHeld}
+use Rattle.ordered_bytes.specs.Receiver.{Read, acceptChecks, consumed, consumedPieces, pieces, available, anyHeld}
 use Rattle.ordered_bytes.specs.Buffer.{Buffer, view, wellFormed, shapeFits, slotAt, stored, taken}
 
 -- ---- the answers in document 01's terms

@@ -1,5 +1,6 @@
 // What the two reads share: the base that they answer, and what the buffer keeps once packets have left it.
 // Ports the state changes of `consume` and `consume_bytes` of net/ordered_bytes.rs; document 01, "From packets to the reader".
+// Proved: the base is the definition's, and so is the buffer left.
 ghost use mathlib.Core.Path.{_≡_};
 ghost use mathlib.Core.Bool.{true};
 ghost use mathlib.Core.List.{[]};

@@ -1,5 +1,6 @@
 // The receive buffer: packets held by number until the reader takes their bytes in order.
 // Ports net/ordered_bytes.rs; document 01, "From packets to the reader".
+// Proved: what each call answers, the state and every lent list that it leaves are the definition's in specs/Calls.antt, on every input.
 ghost use mathlib.Core.Path.{_≡_};
 ghost use mathlib.Core.Bool.{true};
 ghost use Rattle.ordered_bytes.specs.Buffer.{bufferOf, wellFormed};

@@ -1,5 +1,6 @@
 // `consume_bytes`: carry-over and held packets as pieces. They are counted first, so that 10 and 8 are decided before anything moves.
 // Ports `consume_bytes` of net/ordered_bytes.rs; document 01, "From packets to the reader".
+// Proved: the pieces counted and copied, their lengths and the answer are the definition's.
 ghost use mathlib.Core.Path.{_≡_};
 ghost use mathlib.Core.Bool.{true, cond};
 ghost use mathlib.Core.List.{[], map, _++_, flatten};

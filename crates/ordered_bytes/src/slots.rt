@@ -1,5 +1,6 @@
 // The ring of slots: which slot stands where, and slots that are emptied.
 // Ports `wrap_index` of net/ordered_bytes.rs; document 01, "A taken slot loses its mark, its length becomes 0".
+// Proved: which slot, and each lent list as it is left.
 ghost use mathlib.Core.Path.{_≡_};
 ghost use mathlib.Core.Bool.{true, false};
 ghost use Prim.Native.Nat.{_+_, _*_, _≤_, _<_};

@@ -1,6 +1,6 @@
 // Refusal 12's test of the receive buffer, part by part; document 01, the refusal table.
+// Proved: each part is the definition's. `bufferOf o marks [] []` says that the marks alone decide, whatever the lengths and the store.
 ghost use mathlib.Core.Path.{_≡_};
-ghost use mathlib.Core.Bool.{true};
 ghost use mathlib.Core.List.{[]};
 ghost use Prim.Native.Nat.{_≤_, _<_};
 ghost use lib.ListN.{length, drop};

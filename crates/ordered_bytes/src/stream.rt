@@ -1,5 +1,6 @@
 // `consume`: carry-over, then held packets from the front, a packet too long for the rest split.
 // Ports `consume` of net/ordered_bytes.rs; document 01, "From packets to the reader".
+// Proved: the bytes given, the packets taken, the rest and the answer are the definition's.
 ghost use mathlib.Core.Path.{_≡_};
 ghost use mathlib.Core.Bool.{true, cond};
 ghost use Prim.Native.Nat.{_+_, _≤_, min};

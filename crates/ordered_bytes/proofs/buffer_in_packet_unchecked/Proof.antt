@@ -8,7 +8,7 @@ use lib.ListN.{getD}
 use borrow.Author.Needs.{needs}
 use borrow.Author.Tests.{lt-ltb, le-ltb, le-leb, lt-leb, eq-eqb, ne-eqb}
 use Rattle.ordered_bytes.specs.Receiver.{isHeld, placeAt}
-use Rattle.ordered_bytes.specs.Buffer.{Buffer, bufferOf, view, slots, slotAt}
+use Rattle.ordered_bytes.specs.Buffer.{Buffer, bufferOf, view, slots}
 use Rattle.ordered_bytes.specs.Calls.{accepting}
 use Rattle.ordered_bytes.proofs.WellFormed.{Good, good}
 use Rattle.ordered_bytes.proofs.View.{length-held, slot-below, slot-ends, store-long}

@@ -1,11 +1,9 @@
 -- `ordered_bytes::consume_unchecked` meets its contract. Assumes nothing.
-use mathlib.Core.Path.{_≡_, sym, _∙_}
-use mathlib.Core.List.{[]}
+use mathlib.Core.Path.{sym, _∙_}
 use native.Mathlib.Omega.{arith}
 use borrow.Author.Needs.{needs}
 use borrow.Author.Tests.{lt-ltb, le-ltb}
-use Rattle.ordered_bytes.specs.Receiver.{base}
-use Rattle.ordered_bytes.specs.Buffer.{Buffer, bufferOf, view}
+use Rattle.ordered_bytes.specs.Buffer.{Buffer, bufferOf}
 use Rattle.ordered_bytes.specs.Calls.{consuming}
 use Rattle.ordered_bytes.proofs.WellFormed.{Good, good}
 use Rattle.ordered_bytes.proofs.Kept.{consume-fits}

@@ -1,6 +1,5 @@
 -- `ordered_bytes::peek_unchecked` meets its contract. Assumes nothing.
 use mathlib.Core.Path.{_∙_}
-use borrow.Author.Needs.{needs}
 use borrow.Author.Tests.{lt-ltb, le-ltb}
 use Rattle.ordered_bytes.specs.Buffer.{Buffer, bufferOf}
 use Rattle.ordered_bytes.specs.Calls.{peeking}

@@ -1,5 +1,4 @@
 -- `ordered_bytes::front::base_packet_number` meets its contract. Assumes nothing.
-use mathlib.Core.Path.{sym}
 use mathlib.Core.List.{[]}
 use borrow.Author.Needs.{needs}
 use Rattle.ordered_bytes.specs.Buffer.{bufferOf}

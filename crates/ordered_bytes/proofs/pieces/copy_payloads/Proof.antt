@@ -4,7 +4,6 @@ use Prim.Native.Nat.{_+_, _-_, _*_, _≤_, _<_}
 use native.Mathlib.Omega.{arith}
 use mir.Facts.{fits-le, fits-lit}
 use lib.ListN.{length, getD}
-use borrow.Author.Needs.{needs}
 use Rattle.ordered_bytes.specs.Buffer.{Buffer, bufferOf, slots, width}
 use Rattle.ordered_bytes.proofs.WellFormed.{Good, good}
 use Rattle.ordered_bytes.proofs.View.{slot-ends, store-long}

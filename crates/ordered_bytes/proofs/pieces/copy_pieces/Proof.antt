@@ -1,6 +1,5 @@
 -- `ordered_bytes::pieces::copy_pieces` meets its contract. Assumes nothing.
 use mathlib.Core.List.{flatten}
-use mathlib.Core.Path.{_≡_}
 use native.Mathlib.Omega.{arith}
 use borrow.Author.Needs.{needs}
 use Rattle.ordered_bytes.specs.Receiver.{payloads}

@@ -1,5 +1,5 @@
 -- `ordered_bytes::state::held_numbers_fit` meets its contract: a number above 2^64 − 2 stands at a distance of at least 2^64 − 1 − front. Assumes nothing.
-use mathlib.Core.Path.{_≡_, sym, ap, _∙_}
+use mathlib.Core.Path.{sym, ap, _∙_}
 use mathlib.Core.Bool.{not}
 use mathlib.Core.List.{[]}
 use borrow.Author.Needs.{needs}
