@@ -4,3 +4,7 @@ pub mod Run
 pub mod Packed
 pub mod Announced
 pub mod Made
+pub mod AckCount
+pub mod AckChecks
+pub mod AckTurns
+pub mod AckPacking

@@ -2,3 +2,5 @@ pub mod Packing
 pub mod RustPacking
 pub mod PayloadBytes
 pub mod Reserve
+pub mod Acks
+pub mod AckSteps

@@ -17,6 +17,8 @@ ghost use Rattle.writer.specs.Packing.{largest, payloadSize, byteLimit, 
 ghost use Rattle.writer.specs.PayloadBytes.{payloadBytes};
 ghost use Rattle.writer.specs.Reserve.{reserving, reserveSays};
 
+pub mod acks;
+
 // The Rust's MAX_BLUEFIN_PAYLOAD_SIZE_BYTES.
 const PAYLOAD_SIZE: usize = 1500;
 
