@@ -1,28 +1,28 @@
 -- The sender's side of demand 3: which number carries which payload, and that each of the sender's calls keeps `SenderKeeps`.
 -- Document 01, "From the queue to a datagram", "Closing" and "Premises of demand 3".
 -- Assumes nothing.
-use Prim.Native.Nat.{ℕ, zero, suc, _+_, _-_, _*_, _/_, _≤_, _<_}
+use Prim.Native.Nat.{ℕ, zero, suc, _+_, _-_, _*_, _≤_, _<_}
 use mathlib.Core.Path.{_≡_, refl, sym, ap, _∙_}
 use mathlib.Core.Logic.{inl, inr}
-use mathlib.Core.Bool.{Bool, true, false, cond}
+use mathlib.Core.Bool.{Bool, true, false}
 use mathlib.Core.Option.{some}
 use mathlib.Core.List.{List, [], _∷_, _++_, map, map-append, append-assoc, append-nil, flatten}
-use native.Mathlib.Nat.{add-zero, add-suc, suc-add, zero-mul, suc-mul, div-add-mod', mod-lt}
+use native.Mathlib.Nat.{add-zero, add-suc, suc-add}
 use native.Mathlib.Omega.{arith}
-use lib.ListN.{length, take, drop, getElem?, length-append, length-take, length-drop, take-append-drop}
-use lib.Seq.{drop-length}
-use lib.Dec.{ltb, leb, lit<}
-use borrow.Author.Tests.{ltb-true, ltb-false, leb-true, leb-false, eq-eqb}
+use lib.ListN.{length, getElem?, length-append, take-append-drop}
+use lib.Dec.{ltb, leb}
+use borrow.Author.Tests.{ltb-false, leb-false, eq-eqb}
 use Rattle.refusal.specs.Said.{Said, answers, refuses, checks}
 use Rattle.lists.proofs.Flatten.{flatten-append}
 use Rattle.packet.specs.Packet.{Packet}
-use Rattle.writer.specs.Packing.{Queue, packing, payloadSize, byteLimit, bytesTaken, packetsFor, cut, payloadsOf, numbered, removal, removed, sum}
+use Rattle.writer.specs.Packing.{packing, byteLimit, bytesTaken, packetsFor, payloadsOf, numbered, removed, sum}
 use Rattle.writer.specs.Reserve.{reserving}
 use Rattle.writer.specs.declared.DataPacked.{DataPacked}
+use Rattle.writer.proofs.Made.{payloads-joined, count-payloads, payload-some, remaining-adds-up}
 use Rattle.ordered_bytes.specs.Receiver.{largest}
 use Rattle.ordered_bytes.specs.declared.OrderedBytes.{OrderedBytes}
-use Rattle.link.specs.Demand3.{SenderSide, Link, fresh, enqueued, cutFirst, packedBy, packed, reservedBy, refusal, In, All, MadeEarlier, Made}
-use Rattle.link.proofs.All.{all-append}
+use Rattle.link.specs.Demand3.{SenderSide, Link, fresh, enqueued, packedBy, packed, reservedBy, refusal, In, All, MadeEarlier, Made}
+use Rattle.link.proofs.All.{all-append, all-getD}
 use Rattle.link.proofs.Invariant.{key, numberedFrom, SenderKeeps}
 
 -- ---- which number carries which payload
@@ -99,94 +99,10 @@ unfolding sum flatten
 sum-lengths [] = refl
 sum-lengths (x ∷ xs) = omega (arith, sum-lengths xs, length-append x (flatten xs))
 
--- ---- what packing takes, and what it leaves
-
-module _ (size : ℕ) where
-  -- k payloads with room for all bytes hold them all
-  cut-joins : (k : ℕ) (bytes : List ℕ) → length bytes ≤ k * size → flatten (cut size k bytes) ≡ bytes
-  unfolding cut flatten
-  cut-joins zero [] h = refl
-  cut-joins zero (b ∷ bytes) h = absurd (omega (arith, zero-mul size))
-  cut-joins (suc k) bytes h = rw (cut-joins k (drop size bytes) (omega (arith, suc-mul k size, length-drop size bytes))) (take-append-drop size bytes)
-
-  -- none of k payloads is empty where one fewer has no room for all bytes
-  cut-filled : (k : ℕ) (bytes : List ℕ) → 0 < size → k * size < length bytes + size → All (λ p. 0 < length p) (cut size k bytes)
-  unfolding cut All
-  cut-filled zero bytes room h = tt
-  cut-filled (suc k) bytes room h =
-      (omega (arith, suc-mul k size, length-take size bytes), cut-filled k (drop size bytes) room (omega (arith, suc-mul k size, length-drop size bytes)))
-
-  length-cut : (k : ℕ) (bytes : List ℕ) → length (cut size k bytes) ≡ k
-  unfolding cut
-  length-cut zero bytes = refl
-  length-cut (suc k) bytes = ap suc (length-cut k (drop size bytes))
-
-  -- rounded up, as many payloads as q bytes fill have room for q bytes, and one fewer has not
-  rounds-up : (q : ℕ) → 0 < size → (q ≤ (q + (size - 1)) / size * size) × ((q + (size - 1)) / size * size < q + size)
-  rounds-up q room =
-      let exact = div-add-mod' (q + (size - 1)) size in
-      let rest = mod-lt (q + (size - 1)) room in
-      (omega arith, omega arith)
-
-some-size : 0 < payloadSize
-unfolding payloadSize
-some-size = lit< tt
-
-module _ (limit : ℕ) (bytes : List ℕ) where
-  -- the bytes that are taken
-  abbrev taken : List ℕ
-  taken = take (bytesTaken limit (length bytes)) bytes
-
-  length-taken : length taken ≡ bytesTaken limit (length bytes)
-  length-taken = omega (arith, length-take (bytesTaken limit (length bytes)) bytes)
-
-  payloads-flatten : flatten (payloadsOf limit bytes) ≡ taken
-  payloads-flatten =
-      let q = bytesTaken limit (length bytes) in
-      cut-joins payloadSize (packetsFor q) taken (omega (arith, length-taken, rounds-up payloadSize q some-size .0))
-
-  payloads-filled : All (λ p. 0 < length p) (payloadsOf limit bytes)
-  payloads-filled =
-      let q = bytesTaken limit (length bytes) in
-      cut-filled payloadSize (packetsFor q) taken some-size (omega (arith, length-taken, rounds-up payloadSize q some-size .1))
-
-  length-payloads : length (payloadsOf limit bytes) ≡ packetsFor (bytesTaken limit (length bytes))
-  length-payloads = length-cut payloadSize (packetsFor (bytesTaken limit (length bytes))) taken
-
--- the entries left, where some go and some bytes are cut from the next
-abbrev left : ℕ × ℕ → List ℕ → List ℕ
-left r ls = cutFirst (r .1) (drop (r .0) ls)
-
--- one entry of l bytes in front, of which suc q bytes go
-left-first : (b : Bool) (q l : ℕ) (ls : List ℕ) (r : ℕ × ℕ) → leb l (suc q) ≡ b → sum (left r ls) ≡ sum ls - (suc q - l)
-    → sum (left (cond b (suc (r .0), r .1) (0, suc q)) (l ∷ ls)) ≡ l + sum ls - suc q
-unfolding sum
-left-first true q l ls r e rest = let goes = leb-true l (suc q) e in rest ∙ omega arith
-left-first false q l ls r e rest = let stays = leb-false l (suc q) e in omega arith
-
--- the entries left once q bytes have gone hold q bytes fewer
-removal-left : (q : ℕ) (ls : List ℕ) → sum (left (removal q ls) ls) ≡ sum ls - q
-unfolding removal sum
-removal-left q [] = omega arith
-removal-left zero (l ∷ ls) = omega arith
-removal-left (suc q) (l ∷ ls) = left-first (leb l (suc q)) q l ls (removal (suc q - l) ls) refl (removal-left (suc q - l) ls)
-
-left-all : (ls : List ℕ) → sum (left (length ls, 0) ls) ≡ 0
-unfolding sum
-left-all ls = rw drop-length
-
--- what is left of a queue adds up again
-left-adds-up : (limit : ℕ) (queue : Queue) → sum (queue .lengths) ≡ length (queue .bytes)
-    → sum (left (removed limit queue) (queue .lengths)) ≡ length (drop (bytesTaken limit (length (queue .bytes))) (queue .bytes))
-left-adds-up limit queue e = by (ltb (length (queue .bytes)) limit) refl
-  where
-    q : ℕ
-    q = bytesTaken limit (length (queue .bytes))
-
-    by : (b : Bool) → ltb (length (queue .bytes)) limit ≡ b
-        → sum (left (cond b (length (queue .lengths), 0) (removal q (queue .lengths))) (queue .lengths)) ≡ length (drop q (queue .bytes))
-    by true t = left-all (queue .lengths) ∙ omega (arith, ltb-true (length (queue .bytes)) limit t, length-drop q (queue .bytes))
-    by false t = removal-left q (queue .lengths) ∙ omega (arith, length-drop q (queue .bytes))
+-- no payload made is empty
+payloads-filled : (limit : ℕ) (bytes : List ℕ) → All (λ p. 0 < length p) (payloadsOf limit bytes)
+payloads-filled limit bytes =
+    all-getD (λ p. 0 < length p) [] (payloadsOf limit bytes) (λ i h. payload-some limit bytes i (rw (count-payloads limit bytes) at h))
 
 -- ---- the sender's calls
 
@@ -291,10 +207,10 @@ module _ {s : ℕ} {payloads : List (List ℕ)} {d : SenderSide} (v : SenderKeep
             keeps = record {
               made = rw (map-append, v .made, keys-numbered, numberedFrom-append) (ap (λ (r : List (ℕ × List ℕ)). numberedFrom s payloads ++ r) next);
               filled = all-append _ payloads more (v .filled) (payloads-filled byteLimit bytes);
-              stream = rw (flatten-append, payloads-flatten, append-assoc, take-append-drop) (v .stream);
-              addsUp = left-adds-up byteLimit (d .queue) (v .addsUp);
-              unclosed = λ c. rw (v .unclosed c, length-append, length-payloads) (omega arith);
-              above = rw (length-append, length-payloads) (omega arith);
+              stream = rw (flatten-append, payloads-joined, append-assoc, take-append-drop) (v .stream);
+              addsUp = remaining-adds-up byteLimit (d .queue) (v .addsUp);
+              unclosed = λ c. rw (v .unclosed c, length-append, count-payloads) (omega arith);
+              above = rw (length-append, count-payloads) (omega arith);
               fits = h;
             };
           }

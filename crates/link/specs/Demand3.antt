@@ -1,7 +1,7 @@
 -- Demand 3, whole: a fresh link, any list of calls on it, document 01's premises, and what is claimed of the list ("Premises of demand 3").
 -- Every step is made of the definitions that the calls' contracts cite, on the lent lists themselves; beside them stands only the history.
 -- The theorem is `demand3` of proofs/Demand3.antt.
-use Prim.Native.Nat.{ℕ, zero, suc, _+_, _-_, _≤_, _<_}
+use Prim.Native.Nat.{ℕ, zero, suc, _+_, _≤_, _<_}
 use mathlib.Core.Path.{_≡_}
 use mathlib.Core.Logic.{_⊎_}
 use mathlib.Core.Bool.{Bool, true, false, cond}
@@ -13,7 +13,7 @@ use Rattle.refusal.specs.Said.{Said, answers, refuses, refusesAt}
 use Rattle.header.specs.Types.{typeNumber}
 use Rattle.packet.specs.Packet.{Packet}
 use Rattle.packet.specs.Datagram.{parses, parsesInto, cellsWritten, listed}
-use Rattle.writer.specs.Packing.{Queue, packing, packetsMade, byteLimit, payloadSize}
+use Rattle.writer.specs.Packing.{Queue, packing, packetsMade, shortened, byteLimit, payloadSize}
 use Rattle.writer.specs.Reserve.{reserving}
 use Rattle.writer.specs.declared.DataPacked.{DataPacked}
 use Rattle.ordered_bytes.specs.Receiver.{largest}
@@ -109,13 +109,9 @@ enqueued entries d = record {
   closing = d .closing;
 }
 
-abbrev pub cutFirst : ℕ → List ℕ → List ℕ
-cutFirst n [] = []
-cutFirst n (l ∷ ls) = (l - n) ∷ ls
-
 -- "each packing removes exactly what it answers"
 abbrev pub dequeued : DataPacked → Queue → Queue
-dequeued p q = record { bytes = drop (p .bytes) (q .bytes); lengths = cutFirst (p .«bytes_cut») (drop (p .«entries_removed») (q .lengths)) }
+dequeued p q = record { bytes = drop (p .bytes) (q .bytes); lengths = shortened (p .«bytes_cut») (drop (p .«entries_removed») (q .lengths)) }
 
 abbrev pub packedBy : Said DataPacked → ℕ → ℕ → SenderSide → SenderSide
 packedBy (answers p) src dst d = record {
