@@ -8,7 +8,7 @@ use mathlib.Core.Logic.{inl, inr}
 use native.Mathlib.Omega.{arith}
 use lib.Dec.{ltb}
 use borrow.Author.Tests.{lt-ltb, le-ltb, ltb-false, ne-eqb}
-use Rattle.refusal.specs.Said.{Said, answers, refuses, checks}
+use Rattle.refusal.specs.Said.{answers, refuses, checks}
 use Rattle.refusal.proofs.Checks.{Passed, Failed, passed-is}
 use Rattle.ring_buffer.specs.Ring.{wellFormed}
 use Rattle.ring_buffer.specs.declared.RingBuffer.{RingBuffer}
@@ -50,9 +50,6 @@ module _ (g : RingBuffer) (capacity used room : ℕ) (over : Bool) {k : ℕ} (e 
 
   pub pack-count : k ≡ ackCount g used
   pack-count = passed-at (ackChecks g capacity used room over) e .1
-
-  pub pack-small : over ≡ false
-  pack-small = passed .1 .0
 
   pub pack-room : used + 20 * k ≤ room
   pack-room = rw pack-count (ltb-false room _ (passed .1 .1 .0))

@@ -1,6 +1,6 @@
 -- How many acks are packed: no more than are queued, and no more than fit.
 -- Assumes nothing.
-use Prim.Native.Nat.{ℕ, _+_, _-_, _*_, _/_, _<_, _≤_}
+use Prim.Native.Nat.{ℕ, _-_, _/_, _<_, _≤_}
 use mathlib.Core.Path.{_≡_}
 use native.Mathlib.Omega.{arith}
 use Rattle.ring_buffer.specs.declared.RingBuffer.{RingBuffer}

@@ -1,20 +1,19 @@
 -- Ack packing as a whole: the steps, one after the other, come to the definition.
 -- Assumes nothing.
-use Prim.Native.Nat.{ℕ, _+_, _*_, _<_, _≤_}
+use Prim.Native.Nat.{ℕ, _+_, _*_, _≤_}
 use native.Mathlib.Omega.{arith}
 use mathlib.Core.Path.{_≡_, refl, sym, ap, _∙_}
 use mathlib.Core.Bool.{Bool, true, false}
 use mathlib.Core.List.{List}
 use lib.ListN.{length, take}
-use lib.Seq.{paste}
 use borrow.Author.Tests.{ltb-false}
 use Rattle.refusal.specs.Said.{Said, answers, refuses, checks}
-use Rattle.refusal.proofs.Checks.{Passed, Failed, Checked, passes, fails, checked, passed-is}
+use Rattle.refusal.proofs.Checks.{Checked, passes, fails, checked, passed-is}
 use Rattle.ring_buffer.specs.Ring.{wellFormed, contents, popped, blanked}
 use Rattle.ring_buffer.specs.declared.AckData.{AckData}
 use Rattle.ring_buffer.specs.declared.RingBuffer.{RingBuffer}
 use Rattle.ring_buffer.proofs.Blanked.{blanked-none}
-use Rattle.writer.specs.Acks.{ackCount, acksTaken, ackBytes, anyTooLarge, ackChecks, packed, Outcome, leaves, consumesAcks}
+use Rattle.writer.specs.Acks.{ackCount, acksTaken, anyTooLarge, ackChecks, packed, Outcome, leaves, consumesAcks}
 use Rattle.writer.specs.AckSteps.{malformed, due, batch, saying, leaving, Packable}
 use Rattle.writer.specs.declared.acks.AcksPacked.{AcksPacked}
 use Rattle.writer.specs.declared.acks.AckBatch.{AckBatch}
@@ -45,47 +44,50 @@ module _ (g : RingBuffer) (ys : List AckData) (used src dst : ℕ) (out : List �
         let k-is : due g c used room ≡ ackCount g used = rw fine refl in
         scan (ring-well g c used room fine) (rw k-is (count-queued g used)) ∙ ap (λ (k : ℕ). anyTooLarge (take k (contents g ys))) k-is
 
+    abbrev cs : List (Bool × ℕ)
+    cs = ackChecks g c used room over
+
+    abbrev k : ℕ
+    k = ackCount g used
+
     abbrev b : AckBatch
     b = batch g c used src dst room over
 
-    -- what is drained may be
+    -- the batch may be drained
     pub packable : Packable b ys out
-    packable some = by (checked (λ n. 0) (ackCount g used) (ackChecks g c used room over))
+    packable some = by (checked (λ n. 0) k cs)
       where
-        by : Checked (ackChecks g c used room over) (λ n. 0) (ackCount g used)
-            → (wellFormed g c ≡ true) × (b .taken ≤ g .len) × (used + 20 * b .taken ≤ room) × (anyTooLarge (take (b .taken) (contents g ys)) ≡ false)
+        by : Checked cs (λ n. 0) k → (wellFormed g c ≡ true) × (b .taken ≤ g .len) × (used + 20 * b .taken ≤ room) × (anyTooLarge (take (b .taken) (contents g ys)) ≡ false)
         by (passes p q) =
             (ring-well g c used room (p .0), rw q (count-queued g used), rw q (ltb-false room _ (p .1 .1 .0)), rw q (sym (scan-is (p .0)) ∙ p .1 .0))
         by (fails n f q) = absurd (omega (arith, q, some))
 
-    -- the definition, decided on what the scan found
-    abbrev decidedOn : Bool → Outcome
-    decidedOn t = checks (ackChecks g c used room t) (λ n. leaves (refuses n) g ys out)
-        (leaves (answers (packed g used)) (popped g c (ackCount g used)) (blanked (g .head) (ackCount g used) ys) (written g ys used src dst out (ackCount g used)))
+    abbrev refused : ℕ → Outcome
+    refused n = leaves (refuses n) g ys out
 
-    decided-is : decidedOn over ≡ consumesAcks g ys used src dst out
+    abbrev done : Outcome
+    done = leaves (answers (packed g used)) (popped g c k) (blanked (g .head) k ys) (written g ys used src dst out k)
+
+    -- the definition's check of 11 is the scan's, where it matters
+    decided-is : checks cs refused done ≡ consumesAcks g ys used src dst out
     unfolding consumesAcks
     decided-is = by (malformed g c used room) refl
       where
-        by : (t : Bool) → malformed g c used room ≡ t → decidedOn over ≡ decidedOn (anyTooLarge acks)
+        by : (t : Bool) → malformed g c used room ≡ t → checks cs refused done ≡ checks (ackChecks g c used room (anyTooLarge acks)) refused done
         by true e = rw e refl
-        by false e = ap decidedOn (scan-is e)
+        by false e = ap (λ (t : Bool). checks (ackChecks g c used room t) refused done) (scan-is e)
 
     -- what is said and what is left, step by step, is what the definition gives
     pub outcome-is : {s : Said AcksPacked} {h : RingBuffer} {zs : List AckData} {ws : List ℕ} → s ≡ saying g c used room over → h ≡ leaving g c used room over
         → zs ≡ blanked (g .head) (b .taken) ys → ws ≡ written g ys used src dst out (b .taken) → leaves s h zs ws ≡ consumesAcks g ys used src dst out
-    outcome-is {s} {h} {zs} {ws} ps ph pz pw =
-        by (checked (λ n. leaves (refuses n) g ys out) (leaves (answers (packed g used)) (popped g c (ackCount g used)) (blanked (g .head) (ackCount g used) ys) (written g ys used src dst out (ackCount g used))) (ackChecks g c used room over))
-        ∙ decided-is
+    outcome-is {s} {h} {zs} {ws} ps ph pz pw = by (checked refused done cs) ∙ decided-is
       where
-        by : Checked (ackChecks g c used room over) (λ n. leaves (refuses n) g ys out)
-            (leaves (answers (packed g used)) (popped g c (ackCount g used)) (blanked (g .head) (ackCount g used) ys) (written g ys used src dst out (ackCount g used)))
-            → leaves s h zs ws ≡ decidedOn over
+        by : Checked cs refused done → leaves s h zs ws ≡ checks cs refused done
         by (passes p q) =
-            let k-is : b .taken ≡ ackCount g used = passed-is (λ n. 0) (ackCount g used) (ackChecks g c used room over) p in
-            same-outcome (ps ∙ passed-is refuses (answers (packed g used)) (ackChecks g c used room over) p) (ph ∙ passed-is (λ n. g) (popped g c (ackCount g used)) (ackChecks g c used room over) p)
-            (pz ∙ ap (λ (k : ℕ). blanked (g .head) k ys) k-is) (pw ∙ ap (written g ys used src dst out) k-is) ∙ sym q
+            let k-is : b .taken ≡ k = passed-is (λ n. 0) k cs p in
+            same-outcome (ps ∙ passed-is refuses (answers (packed g used)) cs p) (ph ∙ passed-is (λ n. g) (popped g c k) cs p)
+            (pz ∙ ap (λ (n : ℕ). blanked (g .head) n ys) k-is) (pw ∙ ap (written g ys used src dst out) k-is) ∙ sym q
         by (fails n f q) =
-            let k-is : b .taken ≡ 0 = failed-is (λ n. 0) (ackCount g used) (ackChecks g c used room over) f in
-            same-outcome (ps ∙ failed-is refuses (answers (packed g used)) (ackChecks g c used room over) f) (ph ∙ failed-is (λ n. g) (popped g c (ackCount g used)) (ackChecks g c used room over) f)
-            (pz ∙ ap (λ (k : ℕ). blanked (g .head) k ys) k-is ∙ sym (blanked-none (g .head) ys)) (pw ∙ ap (written g ys used src dst out) k-is ∙ sym (written-none g ys used src dst out)) ∙ sym q
+            let k-is : b .taken ≡ 0 = failed-is (λ r. 0) k cs f in
+            same-outcome (ps ∙ failed-is refuses (answers (packed g used)) cs f) (ph ∙ failed-is (λ r. g) (popped g c k) cs f)
+            (pz ∙ ap (λ (m : ℕ). blanked (g .head) m ys) k-is ∙ sym (blanked-none (g .head) ys)) (pw ∙ ap (written g ys used src dst out) k-is ∙ sym (written-none g ys used src dst out)) ∙ sym q

@@ -40,11 +40,15 @@ any-behind (b ∷ l) a = ap (λ (t : Bool). tooLarge b || t) (any-behind l a) �
 any-next : (l : List AckData) (i : ℕ) → i < length l → (anyTooLarge (take i l) || tooLarge (getD l i blank)) ≡ anyTooLarge (take (suc i) l)
 any-next l i h = sym (ap anyTooLarge (take-suc l i blank h) ∙ any-behind (take i l) (getD l i blank))
 
-small-at : (l : List AckData) (i : ℕ) → anyTooLarge l ≡ false → i < length l → getD l i blank .«num_packets_consumed» ≤ 65535
+-- where none is too large, the first is not, nor any behind it
+pub small-first : (a : AckData) (l : List AckData) → anyTooLarge (a ∷ l) ≡ false → (a .«num_packets_consumed» ≤ 65535) × (anyTooLarge l ≡ false)
 unfolding anyTooLarge
+small-first a l e = let both = or-false (tooLarge a) (anyTooLarge l) e in (ltb-false 65535 (a .«num_packets_consumed») (both .0), both .1)
+
+small-at : (l : List AckData) (i : ℕ) → anyTooLarge l ≡ false → i < length l → getD l i blank .«num_packets_consumed» ≤ 65535
 small-at [] i e h = absurd (omega arith)
-small-at (a ∷ l) zero e h = ltb-false 65535 (a .«num_packets_consumed») (or-false (tooLarge a) (anyTooLarge l) e .0)
-small-at (a ∷ l) (suc i) e h = small-at l i (or-false (tooLarge a) (anyTooLarge l) e .1) (omega arith)
+small-at (a ∷ l) zero e h = small-first a l e .0
+small-at (a ∷ l) (suc i) e h = small-at l i (small-first a l e .1) (omega arith)
 
 pub scanned-none : (l : List AckData) → false ≡ anyTooLarge (take 0 l)
 unfolding anyTooLarge

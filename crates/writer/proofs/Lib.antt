@@ -8,3 +8,4 @@ pub mod AckCount
 pub mod AckChecks
 pub mod AckTurns
 pub mod AckPacking
+pub mod AckLaws

@@ -1,6 +1,6 @@
 -- `writer::acks::ack_batch` meets its contract. Assumes nothing.
 use Prim.Native.Nat.{ℕ}
-use mathlib.Core.Path.{_≡_, sym, ap, _∙_}
+use mathlib.Core.Path.{sym, ap, _∙_}
 use borrow.Author.Needs.{needs}
 use Rattle.writer.specs.Acks.{ackCount, ackChecks}
 use Rattle.writer.specs.AckSteps.{verdictSays}

@@ -1,6 +1,6 @@
 -- `writer::acks::consume_acks_into` meets its contract: a walk of its MIR, by hand, with no branch and no loop: five calls, of which three are of covered functions by value; one lends records as shared, and `drain` gets both slices for good. Assumes nothing.
 use mathlib.Core.Path.{_≡_, refl, sym, ap, _∙_, subst}
-use Prim.Native.Nat.{ℕ, _*_, _<_, _≤_, _^_}
+use Prim.Native.Nat.{ℕ, _<_, _≤_, _^_}
 use mathlib.Core.Bool.{Bool, true}
 use mathlib.Core.List.{[], _∷_, List}
 use lib.ListN.{length, take}
@@ -280,8 +280,11 @@ module _ {M : Type 1} (𝓤 : URA M) (H : Heap 𝓤) (A : Atoms 𝓤) (W : Given
           split ! $ move ! (1 ∷ []) $ use1 W (raw (fact 𝓤 (Answered g n used m over r))) (ans-of 𝓤 H A mem run g n used m over r) $ heard ! (Answered g n used m over r) (λ er. split ! $ drop ! $ peeks ! X.the-row (Is X.the-row) (shows 𝓤 H A X.the-row) r (v ∷ []) (λ is-r.
           -- [what the answer owns; the tokens; out's last list; true; true; records' last list; the locals]
           land ! (from ! (stop !)) (init ! 42 refl (EL.lawful X.the-type X′.the-laws 𝓤 H A W tt .typed r _ is-r .0)) $
-          returns ! (look ! 42 refl) $ forget ! 6 refl $ forget ! 8 refl $ forget ! 10 refl $ forget ! 12 refl $ forget ! 14 refl $ forget ! 20 refl $ forget ! 22 refl $ forget ! 26 refl $ forget ! 28 refl $ forget ! 30 refl $ forget ! 32 refl $ forget ! 34 refl $ forget ! 36 refl $ forget ! 38 refl $ forget ! 40 refl $ forget ! 42 refl $
-          move ! (42 ∷ 43 ∷ []) $ free1 ! $ move ! (40 ∷ 41 ∷ []) $ free1 ! $ move ! (38 ∷ 39 ∷ []) $ free1 ! $ move ! (36 ∷ 37 ∷ []) $ free1 ! $ move ! (34 ∷ 35 ∷ []) $ free1 ! $ move ! (32 ∷ 33 ∷ []) $ free1 ! $ move ! (30 ∷ 31 ∷ []) $ free1 ! $ move ! (28 ∷ 29 ∷ []) $ free1 ! $ move ! (26 ∷ 27 ∷ []) $ free1 ! $ move ! (24 ∷ 25 ∷ []) $ free1 ! $ move ! (22 ∷ 23 ∷ []) $ free1 ! $ move ! (20 ∷ 21 ∷ []) $ free1 ! $ move ! (18 ∷ 19 ∷ []) $ free1 ! $ move ! (16 ∷ 17 ∷ []) $ free1 ! $ move ! (14 ∷ 15 ∷ []) $ free1 ! $ move ! (12 ∷ 13 ∷ []) $ free1 ! $ move ! (10 ∷ 11 ∷ []) $ free1 ! $ move ! (8 ∷ 9 ∷ []) $ free1 ! $ move ! (6 ∷ 7 ∷ []) $ free1 ! $ free0 ! $
+          returns ! (look ! 42 refl) $ forget ! 6 refl $ forget ! 8 refl $ forget ! 10 refl $ forget ! 12 refl $ forget ! 14 refl $ forget ! 20 refl $ forget ! 22 refl $ forget ! 26 refl $ forget ! 28 refl $ forget ! 30 refl $ forget ! 32 refl $ forget ! 34 refl $ forget ! 36 refl $
+          forget ! 38 refl $ forget ! 40 refl $ forget ! 42 refl $
+          move ! (42 ∷ 43 ∷ []) $ free1 ! $ move ! (40 ∷ 41 ∷ []) $ free1 ! $ move ! (38 ∷ 39 ∷ []) $ free1 ! $ move ! (36 ∷ 37 ∷ []) $ free1 ! $ move ! (34 ∷ 35 ∷ []) $ free1 ! $ move ! (32 ∷ 33 ∷ []) $ free1 ! $ move ! (30 ∷ 31 ∷ []) $ free1 ! $ move ! (28 ∷ 29 ∷ []) $ free1 ! $
+          move ! (26 ∷ 27 ∷ []) $ free1 ! $ move ! (24 ∷ 25 ∷ []) $ free1 ! $ move ! (22 ∷ 23 ∷ []) $ free1 ! $ move ! (20 ∷ 21 ∷ []) $ free1 ! $ move ! (18 ∷ 19 ∷ []) $ free1 ! $ move ! (16 ∷ 17 ∷ []) $ free1 ! $ move ! (14 ∷ 15 ∷ []) $ free1 ! $ move ! (12 ∷ 13 ∷ []) $ free1 ! $
+          move ! (10 ∷ 11 ∷ []) $ free1 ! $ move ! (8 ∷ 9 ∷ []) $ free1 ! $ move ! (6 ∷ 7 ∷ []) $ free1 ! $ free0 ! $
           keep ! (1 ∷ 5 ∷ 2 ∷ 0 ∷ []) $ by ! (exits r v (zs .0) (zs .1 .1 .0) len₁ len₂
           (outcome-is g ys used src dst os over scan (er .0) (er .1) (ez .0 ∙ ap (λ (b : AckBatch). blanked (b .ring .head) (b .taken) ys) ep)
           (ez .1 ∙ ap (λ (b : AckBatch). written (b .ring) ys (b .used) (b .«src_conn_id») (b .«dst_conn_id») os (b .taken)) ep))))))))))))))))))

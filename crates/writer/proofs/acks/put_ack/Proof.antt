@@ -1,6 +1,5 @@
 -- `writer::acks::put_ack` meets its contract. Assumes nothing.
 use mathlib.Core.Path.{_≡_, ap, _∙_}
-use native.Mathlib.Omega.{arith}
 use Prim.Native.Nat.{_+_, _*_}
 use lib.Seq.{paste}
 use lib.Dec.{lit≤}
