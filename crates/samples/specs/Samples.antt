@@ -3,14 +3,18 @@
 use Prim.Native.Nat.{ℕ, _+_, _*_}
 use mathlib.Core.Path.{_≡_}
 use mathlib.Core.Bool.{true, false}
-use mathlib.Core.List.{List, [], _∷_, _++_}
-use lib.ListN.{replicate}
+use mathlib.Core.List.{List, [], _∷_, _++_, map}
+use lib.ListN.{length, replicate}
 use Rattle.refusal.specs.Said.{Said, answers, refuses, refusesAt}
 use Rattle.header.specs.Header.{headerBytes, headerOf, withNumber, serialisesSecurity, serialisesInto, deserialises}
 use Rattle.header.specs.declared.PacketType.{PacketType}
 use Rattle.header.specs.declared.PacketType.the-variants.{UnencryptedData, Ack}
 use Rattle.header.specs.declared.BluefinHeader.{BluefinHeader}
 use Rattle.packet.specs.Datagram.{parses}
+use Rattle.ring_buffer.specs.declared.AckData.{AckData}
+use Rattle.ring_buffer.specs.declared.RingBuffer.{RingBuffer}
+use Rattle.writer.specs.Packing.{Queue, packing, payloadsOf, remaining, byteLimit}
+use Rattle.writer.specs.Acks.{consumesAcks}
 use Rattle.window.specs.Window.{window, insertPacketNumber, insertRange}
 use Rattle.window.specs.declared.SlidingWindow.{SlidingWindow}
 use Rattle.ordered_bytes.specs.Buffer.{Buffer}
@@ -27,6 +31,17 @@ dataHeaderBytes = 3 ∷ 0 ∷ 5 ∷ 0 ∷ 0 ∷ 0 ∷ 0 ∷ 1 ∷ 0 ∷ 0 ∷ 0 
 -- an index of three cells, filled with a number that no row answers
 abbrev pub index : List ℕ
 index = replicate 6 99
+
+-- the bytes of one entry of 15,001
+abbrev pub longQueue : Queue
+longQueue = record { bytes = replicate 15001 0; lengths = 15001 ∷ [] }
+
+-- a full ring of one ack
+abbrev pub oneAck : RingBuffer
+oneAck = record { head = 0; tail = 0; len = 1 }
+
+abbrev pub ackCell : List AckData
+ackCell = record { «base_packet_num» = 9; «num_packets_consumed» = 3 } ∷ []
 
 -- a receive buffer of n slots, each w bytes wide, from number 100, with nothing held
 abbrev pub emptyBuffer : ℕ → ℕ → Buffer
@@ -58,6 +73,15 @@ pub record Samples : Type 0 where
   pub empty-data-alone : _≡_ {A = Said ℕ × List ℕ} (parses (headerBytes (plain UnencryptedData 0 7)) index) (refusesAt 2 0, index)
   -- "with a 20-byte ack after it: two packets"
   pub empty-data-before-ack : _≡_ {A = Said ℕ × List ℕ} (parses (headerBytes (plain UnencryptedData 0 7) ++ headerBytes (plain Ack 3 9)) index) (answers 2, 0 ∷ 0 ∷ 20 ∷ 0 ∷ 99 ∷ 99 ∷ [])
+  -- "queue 1,499 and 2: payloads 1,500, 1."
+  pub two-payloads : map length (payloadsOf byteLimit (replicate 1499 1 ++ replicate 2 2)) ≡ 1500 ∷ 1 ∷ []
+  -- "15,001: ten packets, 1 byte left."
+  pub ten-packets : packing byteLimit longQueue 0 1 2 (replicate 15200 0) .0
+      ≡ answers (record { bytes = 15000; packets = 10; «next_packet_num» = 10; «entries_removed» = 0; «bytes_cut» = 15000 })
+  pub one-left : remaining byteLimit longQueue ≡ record { bytes = 0 ∷ []; lengths = 1 ∷ [] }
+  -- "used 15,180: one ack; 15,181: none, yes"
+  pub room-for-one : consumesAcks oneAck ackCell 15180 1 2 (replicate 15200 0) .said ≡ answers (record { acks = 1; «to_send» = true })
+  pub room-for-none : consumesAcks oneAck ackCell 15181 1 2 (replicate 15200 0) .said ≡ answers (record { acks = 0; «to_send» = true })
   -- "window from 10 with 12: range 10, count 5 stores 10, 11, answers 7."
   pub range-stops : _≡_ {A = Said Unit × SlidingWindow × List ℕ} (insertRange (window 10 1) (12 ∷ 0 ∷ 0 ∷ 0 ∷ []) 10 5) (refuses 7, window 10 3, 10 ∷ 11 ∷ 12 ∷ 0 ∷ [])
   -- "40,009 accepted, 40,010 is 6"
