@@ -1,6 +1,7 @@
 -- `writer::acks::put_ack` meets its contract. Assumes nothing.
 use mathlib.Core.Path.{_≡_, ap, _∙_}
 use Prim.Native.Nat.{_+_, _*_}
+use native.Mathlib.Omega.{arith}
 use lib.Seq.{paste}
 use lib.Dec.{lit≤}
 use denote.Ref.{now}
@@ -33,7 +34,7 @@ header-is t = t .with-packet-number .ensures ∙ ap (λ (h : BluefinHeader). wit
 serialise-at-unchecked-requires : tie.Need-serialise-at-unchecked-requires
 serialise-at-unchecked-requires c κs =
     let e = header-is (c .before) in
-    rw e (lit≤ tt, lit≤ tt, c .before .before .before .before .before .pre .0)
+    rw e (lit≤ tt, lit≤ tt, omega (arith, c .before .before .before .before .before .pre .0))
 
 same-length : tie.Need-same-length
 same-length c = search needs
