@@ -1,0 +1,56 @@
+//! Asks the published Rust, and keeps its answers as crates/replay_NAME/stdin and stdout, beside this folder.
+//! `cargo run` writes them; `cargo run -- --check` says whether they are what would be written.
+
+#![allow(dead_code, unused_imports)]
+
+mod components;
+mod core;
+#[cfg(test)]
+mod reached;
+mod record;
+mod utils;
+mod worker;
+
+// `net`, laid out by build.rs.
+include!(concat!(env!("OUT_DIR"), "/tree.rs"));
+
+use record::{record, Component};
+use std::path::Path;
+use std::{env, fs, process};
+
+/// Writes or checks the record of one component; answers whether it is as it should be.
+fn keep<C: Component>(check: bool) -> bool {
+    let told = record::<C>();
+    let folder = Path::new(env!("CARGO_MANIFEST_DIR"))
+        .join("../crates")
+        .join(format!("replay_{}", C::NAME));
+    println!(
+        "{}: {} commands, {} left out, {} bytes",
+        C::NAME,
+        told.kept,
+        told.left_out,
+        told.stdin().len() + told.stdout().len()
+    );
+    let files = [("stdin", told.stdin()), ("stdout", told.stdout().to_vec())];
+    for (name, bytes) in files {
+        let path = folder.join(name);
+        if !check {
+            fs::create_dir_all(&folder).expect("a folder for the record");
+            fs::write(&path, bytes).expect("the record is written");
+        } else if fs::read(&path).ok() != Some(bytes) {
+            println!("{}: crates/replay_{}/{name} differs", C::NAME, C::NAME);
+            return false;
+        }
+    }
+    true
+}
+
+fn main() {
+    let check = env::args().any(|arg| arg == "--check");
+    // An input that panics is left out; its message is of no use.
+    std::panic::set_hook(Box::new(|_| {}));
+    let same = [keep::<components::header::Header>(check)];
+    if same.contains(&false) {
+        process::exit(1);
+    }
+}

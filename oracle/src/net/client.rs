@@ -1,0 +1,1 @@
+//! Stands in for `net/client.rs`, which is not published.

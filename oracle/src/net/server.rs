@@ -1,0 +1,1 @@
+//! Stands in for `net/server.rs`, which is not published.
