@@ -47,9 +47,20 @@ fn keep<C: Component>(check: bool) -> bool {
 
 fn main() {
     let check = env::args().any(|arg| arg == "--check");
-    // An input that panics is left out; its message is of no use.
-    std::panic::set_hook(Box::new(|_| {}));
-    let same = [keep::<components::header::Header>(check)];
+    // An input at which the published files panic is left out, without a message. A panic of the oracle's own files ends it.
+    std::panic::set_hook(Box::new(|panic| {
+        if panic.location().map_or(true, |at| at.file().starts_with("src/")) {
+            eprintln!("{panic}");
+            process::abort();
+        }
+    }));
+    let same = [
+        keep::<components::header::Header>(check),
+        keep::<components::packet::Packet>(check),
+        keep::<components::window::Window>(check),
+        keep::<components::close_handler::Close>(check),
+        keep::<components::net::Net>(check),
+    ];
     if same.contains(&false) {
         process::exit(1);
     }

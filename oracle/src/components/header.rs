@@ -87,7 +87,7 @@ pub struct Header;
 
 impl Component for Header {
     const NAME: &'static str = "header";
-    const RANDOM: usize = 3000;
+    const RANDOM: usize = 2000;
 
     fn cases() -> Vec<Question> {
         let mut cases = Vec::new();

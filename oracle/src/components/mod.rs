@@ -1,3 +1,7 @@
 //! One file for each component: what it is asked, and how the Rust answers.
 
+pub mod close_handler;
 pub mod header;
+pub mod net;
+pub mod packet;
+pub mod window;
