@@ -58,6 +58,7 @@ fn main() {
         keep::<components::header::Header>(check),
         keep::<components::packet::Packet>(check),
         keep::<components::window::Window>(check),
+        keep::<components::ordered_bytes::Buffer>(check),
         keep::<components::close_handler::Close>(check),
         keep::<components::net::Net>(check),
     ];

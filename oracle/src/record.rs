@@ -142,6 +142,13 @@ pub fn record<C: Component>() -> Record {
     record
 }
 
+/// What stands for bytes that are too many to print: each of them, and where it stands, counts.
+pub fn sum(bytes: &[u8]) -> u64 {
+    bytes
+        .iter()
+        .fold(0, |sum, &b| sum % 1_000_000_007 * 257 + u64::from(b) + 1)
+}
+
 /// Marsaglia's xorshift64*, from a fixed seed: the records are the same at every run.
 pub struct Xorshift(u64);
 

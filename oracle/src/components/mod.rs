@@ -3,5 +3,6 @@
 pub mod close_handler;
 pub mod header;
 pub mod net;
+pub mod ordered_bytes;
 pub mod packet;
 pub mod window;
