@@ -1,6 +1,6 @@
 -- What the test of 11 tells of a header's fields.
 -- Assumes nothing.
-use Prim.Native.Nat.{ℕ, _≤_}
+use Prim.Native.Nat.{_≤_}
 use mathlib.Core.Path.{_≡_, refl}
 use mathlib.Core.Bool.{Bool, true, false, _||_, true≢false}
 use lib.Dec.{ltb}

@@ -1,11 +1,11 @@
 -- Demand 3: every fair list of calls from a fresh link keeps the invariant, and the invariant gives every conclusion.
 -- Assumes nothing.
 use Prim.Native.Nat.{ℕ, zero, suc, _+_, _-_, _≤_, _<_}
-use mathlib.Core.Path.{_≡_, refl, sym, ap, _∙_}
+use mathlib.Core.Path.{_≡_, sym, ap, _∙_}
 use mathlib.Core.Logic.{inl, inr}
-use mathlib.Core.Bool.{Bool, true, false}
-use mathlib.Core.Option.{none, some}
-use mathlib.Core.List.{List, [], _∷_, _++_, append-assoc, append-nil, flatten}
+use mathlib.Core.Bool.{Bool, false}
+use mathlib.Core.Option.{some}
+use mathlib.Core.List.{List, [], _∷_, _++_, append-nil, flatten}
 use native.Mathlib.Omega.{arith}
 use native.Mathlib.Nat.{add-zero}
 use lib.ListN.{length, take, getElem?}
@@ -16,14 +16,14 @@ use Rattle.ordered_bytes.specs.Buffer.{view}
 use Rattle.ordered_bytes.specs.declared.OrderedBytes.{OrderedBytes}
 use Rattle.ordered_bytes.proofs.Reading.{Dry, weight}
 use Rattle.window.specs.Window.{member}
-use Rattle.link.specs.Demand3.{Link, Call, enqueue, pack, arrive, read, read-pieces, peek, insert, insert-range, consume-window, reserve, Parser, from-bytes, from-bytes-into, fresh, step, run, Fair, Fairly, Premises, Start, Made, MadeEarlier, Acked, Ack, All, In, Reads, refusals, ToEmpty, Made-in, Stops, indexed, Demand3}
-use Rattle.link.proofs.Invariant.{Keeps, SenderKeeps, ReceiverKeeps, WindowKeeps}
+use Rattle.link.specs.Demand3.{Link, Call, enqueue, pack, arrive, read, read-pieces, peek, insert, insert-range, consume-window, reserve, from-bytes, from-bytes-into, fresh, step, run, Fair, Fairly, Premises, Start, Made, MadeEarlier, Ack, All, In, Reads, refusals, ToEmpty, Made-in, indexed, Demand3}
+use Rattle.link.proofs.Invariant.{Keeps}
 use Rattle.link.proofs.All.{all-in, all-among, all-map}
 use Rattle.link.proofs.Parsing.{parse-well}
-use Rattle.link.proofs.Runs.{run-append, run-last, fairly-before, fair-next}
+use Rattle.link.proofs.Runs.{run-last, fairly-before, fair-next}
 use Rattle.link.proofs.Covered.{longest, longest-covered, longest-most, reach, reach-is, reach-most, at-take, flatten-start, start-through}
-use Rattle.link.proofs.Sender.{Carries, made-at, made-earlier-at, made-is, sender-begins, enqueue-keeps, pack-keeps, reserve-keeps, pack-well, reserve-well}
-use Rattle.link.proofs.Receiver.{Numbered, Later, receiver-begins, receiver-extends, accept-all-keeps, accept-all-well, read-keeps, read-pieces-keeps, read-well, read-pieces-well, peek-well, read-dry, read-pieces-dry, reads-reach}
+use Rattle.link.proofs.Sender.{made-at, made-earlier-at, made-is, sender-begins, enqueue-keeps, pack-keeps, reserve-keeps, pack-well, reserve-well}
+use Rattle.link.proofs.Receiver.{Numbered, receiver-begins, receiver-extends, accept-all-keeps, accept-all-well, read-keeps, read-pieces-keeps, read-well, read-pieces-well, peek-well, read-dry, read-pieces-dry, reads-reach}
 use Rattle.link.proofs.Window.{window-begins, window-extends, insert-keeps, range-keeps, consume-keeps, expects-within, consume-first, insert-well, range-well, consume-well}
 
 -- ---- the invariant holds of every link reached

@@ -7,9 +7,10 @@ use mathlib.Core.Bool.{true, false}
 use mathlib.Core.Option.{some}
 use mathlib.Core.List.{List, [], _∷_, _++_, map, flatten}
 use lib.ListN.{length, take, getElem?}
+use Rattle.lists.specs.Numbers.{largest}
 use Rattle.packet.specs.Packet.{Packet}
 use Rattle.writer.specs.Packing.{sum}
-use Rattle.ordered_bytes.specs.Receiver.{largest, isHeld, placeAt}
+use Rattle.ordered_bytes.specs.Receiver.{isHeld, placeAt}
 use Rattle.ordered_bytes.specs.Buffer as buffer
 use Rattle.window.specs.Window as window
 use Rattle.link.specs.Demand3.{SenderSide, ReceiverSide, WindowSide, Link, All}

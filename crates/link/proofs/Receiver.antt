@@ -15,12 +15,13 @@ use lib.Seq.{take-add, take-append-le, getD-set-same, getD-set-other}
 use borrow.Author.Tests.{eq-eqb, ne-eqb}
 use Rattle.refusal.specs.Said.{Said, answers, refuses}
 use Rattle.refusal.proofs.Checks.{Failed}
+use Rattle.lists.specs.Numbers.{largest}
 use Rattle.lists.proofs.Pad.{getD-all, getD-moved}
 use Rattle.lists.proofs.Flatten.{flatten-append}
 use Rattle.lists.proofs.Lookup.{lookup-append, lookup-drop}
 use Rattle.packet.specs.Packet.{Packet}
 use Rattle.ordered_bytes.specs.declared.OrderedBytes.{OrderedBytes}
-use Rattle.ordered_bytes.specs.Receiver.{Receiver, largest, isHeld, placeAt, acceptChecks, accepted, payloads, available, consumed}
+use Rattle.ordered_bytes.specs.Receiver.{Receiver, isHeld, placeAt, acceptChecks, accepted, payloads, available, consumed}
 use Rattle.ordered_bytes.specs.Buffer.{Buffer, view, wellFormed}
 use Rattle.ordered_bytes.specs.Calls.{creating, accepting, peeking, consuming, consumingBytes}
 use Rattle.ordered_bytes.proofs.Ring.{either}

@@ -13,13 +13,13 @@ use lib.ListN.{length, getElem?, length-append, take-append-drop}
 use lib.Dec.{ltb, leb}
 use borrow.Author.Tests.{ltb-false, leb-false, eq-eqb}
 use Rattle.refusal.specs.Said.{Said, answers, refuses, checks}
+use Rattle.lists.specs.Numbers.{largest}
 use Rattle.lists.proofs.Flatten.{flatten-append}
 use Rattle.packet.specs.Packet.{Packet}
 use Rattle.writer.specs.Packing.{packing, byteLimit, bytesTaken, packetsFor, payloadsOf, numbered, removed, sum}
 use Rattle.writer.specs.Reserve.{reserving}
 use Rattle.writer.specs.declared.DataPacked.{DataPacked}
 use Rattle.writer.proofs.Made.{payloads-joined, count-payloads, payload-some, remaining-adds-up}
-use Rattle.ordered_bytes.specs.Receiver.{largest}
 use Rattle.ordered_bytes.specs.declared.OrderedBytes.{OrderedBytes}
 use Rattle.link.specs.Demand3.{SenderSide, Link, fresh, enqueued, packedBy, packed, reservedBy, refusal, In, All, MadeEarlier, Made}
 use Rattle.link.proofs.All.{all-append, all-getD}

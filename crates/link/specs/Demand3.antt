@@ -10,13 +10,13 @@ use mathlib.Core.List.{List, [], _∷_, _++_, map, flatten}
 use lib.ListN.{length, take, drop}
 use lib.Dec.{eqb}
 use Rattle.refusal.specs.Said.{Said, answers, refuses, refusesAt}
+use Rattle.lists.specs.Numbers.{largest}
 use Rattle.header.specs.Types.{typeNumber}
 use Rattle.packet.specs.Packet.{Packet}
 use Rattle.packet.specs.Datagram.{parses, parsesInto, cellsWritten, listed}
 use Rattle.writer.specs.Packing.{Queue, packing, packetsMade, shortened, byteLimit, payloadSize}
 use Rattle.writer.specs.Reserve.{reserving}
 use Rattle.writer.specs.declared.DataPacked.{DataPacked}
-use Rattle.ordered_bytes.specs.Receiver.{largest}
 use Rattle.ordered_bytes.specs.Buffer.{Buffer}
 use Rattle.ordered_bytes.specs.Calls.{creating, accepting, peeking, consuming, consumingBytes}
 use Rattle.ordered_bytes.specs.declared.OrderedBytes.{OrderedBytes}

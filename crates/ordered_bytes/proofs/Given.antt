@@ -11,9 +11,10 @@ use lib.Seq.{paste, length-take-le}
 use lib.Dec.{eqb, ltb}
 use borrow.Author.Tests.{ltb-true, lt-ltb, le-ltb}
 use Rattle.refusal.specs.Said.{Said, answers, refuses}
+use Rattle.lists.specs.Numbers.{largest}
 use Rattle.lists.proofs.Paste.{paste-behind}
 use Rattle.lists.proofs.Cut.{take-cut, drop-cut, paste-part}
-use Rattle.ordered_bytes.specs.Receiver.{largest, walk, payloads, numbersFit, base, consumed}
+use Rattle.ordered_bytes.specs.Receiver.{walk, payloads, numbersFit, base, consumed}
 use Rattle.ordered_bytes.specs.Buffer.{Buffer, slots, width, view, taken}
 use Rattle.ordered_bytes.specs.Calls.{given}
 use Rattle.ordered_bytes.proofs.WellFormed.{Good, is-fits}

@@ -11,9 +11,10 @@ use native.Mathlib.Nat.{le-refl, le-of-lt, add-assoc}
 use lib.ListN.{length, set, getD, replicate, length-set, length-replicate}
 use lib.Seq.{getD-set-same, getD-set-other, set-out, length-paste}
 use Rattle.refusal.specs.Said.{answers}
+use Rattle.lists.specs.Numbers.{largest}
 use Rattle.lists.proofs.Pad.{getD-all, getD-moved}
 use Rattle.ordered_bytes.specs.declared.OrderedBytes.{OrderedBytes}
-use Rattle.ordered_bytes.specs.Receiver.{largest, isHeld, anyHeld, consumed, consumedPieces}
+use Rattle.ordered_bytes.specs.Receiver.{isHeld, anyHeld, consumed, consumedPieces}
 use Rattle.ordered_bytes.specs.Buffer.{Buffer, slots, width, slotAt, view, wellFormed, cleared, wrap, stored, taken}
 use Rattle.ordered_bytes.specs.Calls.{creating, starting, accepting, consuming, consumingBytes}
 use Rattle.ordered_bytes.proofs.WellFormed.{Shaped, Good, is-good}

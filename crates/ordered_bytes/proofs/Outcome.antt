@@ -12,7 +12,8 @@ use lib.Dec.{ltb, eqb}
 use borrow.Author.Tests.{ltb-true, ltb-false, leb-false, eqb-true, eqb-false, not-true, not-false}
 use Rattle.refusal.specs.Said.{answers, refuses}
 use Rattle.refusal.proofs.Checks.{Failed, Checked, passes, fails, checked}
-use Rattle.ordered_bytes.specs.Receiver.{largest, isHeld, placeAt, acceptChecks, consumed, consumedPieces, pieces, anyHeld}
+use Rattle.lists.specs.Numbers.{largest}
+use Rattle.ordered_bytes.specs.Receiver.{isHeld, placeAt, acceptChecks, consumed, consumedPieces, pieces, anyHeld}
 use Rattle.ordered_bytes.specs.Buffer.{Buffer, slots, width, slotAt, view, wellFormed, shapeFits, stored, taken}
 use Rattle.ordered_bytes.specs.Calls.{creating, starting, Acceptance, accepting, given, consuming, PieceConsumption, consumingBytes}
 use Rattle.ordered_bytes.proofs.WellFormed.{Shaped, shaped, Good, good}

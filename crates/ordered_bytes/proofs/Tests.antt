@@ -11,8 +11,9 @@ use lib.ListN.{length, drop, getD, drop-of-length-le}
 use lib.Seq.{drop-cons, drop-nil}
 use lib.Dec.{leb}
 use borrow.Author.Tests.{le-leb, lt-leb, lt-ltb, le-ltb}
+use Rattle.lists.specs.Numbers.{largest}
 use Rattle.ordered_bytes.specs.declared.OrderedBytes.{OrderedBytes}
-use Rattle.ordered_bytes.specs.Receiver.{largest, isHeld, anyHeld, numbersFit}
+use Rattle.ordered_bytes.specs.Receiver.{isHeld, anyHeld, numbersFit}
 use Rattle.ordered_bytes.specs.Buffer.{Buffer, bufferOf, slots, slotAt, inSlot, tabulate, view, wrap, allWithin}
 use Rattle.ordered_bytes.proofs.Ring.{either}
 use Rattle.ordered_bytes.proofs.View.{length-held, held-at}

@@ -10,7 +10,8 @@ use native.Mathlib.Nat.{add-zero, add-suc, suc-add}
 use lib.ListN.{length, getD}
 use lib.Dec.{ltb, leb}
 use borrow.Author.Tests.{ltb-true, leb-true, eqb-true, lt-ltb, le-leb, eq-eqb}
-use Rattle.ordered_bytes.specs.Receiver.{largest, isHeld, numbersFit}
+use Rattle.lists.specs.Numbers.{largest}
+use Rattle.ordered_bytes.specs.Receiver.{isHeld, numbersFit}
 use Rattle.ordered_bytes.specs.Buffer.{Buffer, slots, width, view, between, shapeFits, allWithin, wellFormed}
 
 -- both tests hold, and from both

@@ -6,10 +6,7 @@ use mathlib.Core.Option.{Option, none, some}
 use mathlib.Core.List.{List, [], _∷_, _++_, flatten}
 use lib.ListN.{length, take, drop, set, getD, replicate}
 use lib.Dec.{ltb, leb, eqb}
-
--- the largest packet number, 2^64 − 1
-abbrev pub largest : ℕ
-largest = 18446744073709551615
+use Rattle.lists.specs.Numbers.{largest}
 
 -- `held` has N places, by distance from the front number; each is empty or holds a payload of at most `width` bytes
 pub record Receiver : Type 0 where

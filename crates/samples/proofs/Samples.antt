@@ -6,7 +6,7 @@ use mathlib.Core.Bool.{Bool, true, false, cond}
 use mathlib.Core.List.{List, [], _∷_}
 use mathlib.Core.Option.{none}
 use lib.ListN.{replicate}
-use Rattle.refusal.specs.Said.{Said, answers, refuses, checks}
+use Rattle.refusal.specs.Said.{answers, refuses, checks}
 use Rattle.header.specs.Header.{headerBytes}
 use Rattle.packet.specs.Datagram.{readingLimit, payloadMissing, walkBy, packetsOf, flat, parsed}
 use Rattle.ring_buffer.specs.Ring as ring

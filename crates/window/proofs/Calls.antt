@@ -12,8 +12,9 @@ use lib.Dec.{ltb, leb, eqb}
 use borrow.Author.Tests.{ltb-true, ltb-false, leb-true, leb-false, le-ltb, eqb-true, eqb-false, not-true}
 use Rattle.refusal.specs.Said.{Said, answers, refuses, checks}
 use Rattle.refusal.proofs.Checks.{Passed, Failed, Checked, passes, fails, checked}
+use Rattle.lists.specs.Numbers.{largest}
 use Rattle.window.specs.declared.SlidingWindow.{SlidingWindow}
-use Rattle.window.specs.Window.{windowSize, maxNumber, Outcome, refused, expected, window, held, member, wellFormed}
+use Rattle.window.specs.Window.{windowSize, Outcome, refused, expected, window, held, member, wellFormed}
 use Rattle.window.specs.Window.{storedCells, grown, insertChecks, insertPacketNumber, beforeHeld, rangeChecks, insertBefore, insertRange, runLength, consumedCells, advanced, consume}
 use Rattle.window.proofs.Rises.{WellFormed, both, well-formed, well-formed-is}
 use Rattle.window.proofs.Members.{among, member-stored, before-free, before-within, before-held, run-held, run-ends, run-dropped}
@@ -81,7 +82,7 @@ module _ (w : SlidingWindow) (cells : List ℕ) (h : wellFormed w cells ≡ true
   insert-passed n p =
       let low = ltb-false n (expected w) (p .0) in
       let near = leb-false windowSize (n - expected w) (p .1 .0) in
-      let small = leb-false maxNumber n (p .1 .1 .0) in
+      let small = leb-false largest n (p .1 .1 .0) in
       let new = p .1 .1 .1 .0 in
       let room = ltb-false (length cells) (w .count + 1) (p .1 .1 .1 .1 .0) in
       let q = one-free n new in
@@ -124,7 +125,7 @@ module _ (w : SlidingWindow) (cells : List ℕ) (h : wellFormed w cells ≡ true
   range-passed base count any p =
       let k = beforeHeld base count (held w cells) in
       let low = ltb-false base (expected w) (p .0) in
-      let small = ltb-false maxNumber (base + count) (p .1 .0) in
+      let small = ltb-false largest (base + count) (p .1 .0) in
       let near = leb-false windowSize (base + count - 1 - expected w) (p .1 .1 .0) in
       let room = ltb-false (length cells) (w .count + k) (p .1 .1 .1 .0) in
       let within = before-within base count (held w cells) in
@@ -182,15 +183,15 @@ module _ (w : SlidingWindow) (cells : List ℕ) (h : wellFormed w cells ≡ true
           Consumption w cells o × Keeps o
       by true q =
           let z : e + k ≡ e = let y = eqb-true k 0 q in omega arith in
-          (nothing refl (rw z at (run-ends maxNumber e (held w cells) (well-formed w cells h .small))), h)
+          (nothing refl (rw z at (run-ends largest e (held w cells) (well-formed w cells h .small))), h)
       by false q =
           let d = eqb-false k 0 q in
           let wf = well-formed w cells h in
           let z : e + k - 1 + 1 ≡ e + k = omega arith in (
             run (e + k - 1) k refl (omega arith) z (sym z)
                 (λ n l m. run-held e n (held w cells) l (omega arith))
-                (rw z (run-ends maxNumber e (held w cells) (wf .small)))
-                (λ n. rw z (ap (member n) (held-consumed w cells wf k) ∙ run-dropped maxNumber e n (held w cells) (wf .small))),
+                (rw z (run-ends largest e (held w cells) (wf .small)))
+                (λ n. rw z (ap (member n) (held-consumed w cells wf k) ∙ run-dropped largest e n (held w cells) (wf .small))),
             well-formed-is (advanced w k) (consumedCells w cells k) (consumed-keeps w cells wf),
           )
 

@@ -9,8 +9,9 @@ use lib.ListN.{length, take, drop, getD, replicate, length-append, length-drop, 
 use lib.Seq.{length-take-le, take-at}
 use lib.Dec.{ltb, eqb}
 use borrow.Author.Tests.{ltb-true, ltb-false, eqb-true}
+use Rattle.lists.specs.Numbers.{largest}
 use Rattle.window.specs.declared.SlidingWindow.{SlidingWindow}
-use Rattle.window.specs.Window.{windowSize, maxNumber, expected, held, place, numbers, stored, storedCells, grown, beforeHeld, runLength, consumedCells, advanced}
+use Rattle.window.specs.Window.{windowSize, expected, held, place, numbers, stored, storedCells, grown, beforeHeld, runLength, consumedCells, advanced}
 use Rattle.window.proofs.Rises.{Rises, WellFormed, is-member, place-from}
 use Rattle.window.proofs.Loops.{length-numbers}
 use Rattle.window.proofs.Members.{before-free}
@@ -93,13 +94,13 @@ module _ (w : SlidingWindow) (cells : List ℕ) (h : WellFormed w cells) where
 
   pub stored-keeps : (b n : ℕ) →
       let k = beforeHeld b n (held w cells) in
-      expected w ≤ b → b + k ≤ expected w + windowSize → b + k ≤ maxNumber → w .count + k ≤ length cells → WellFormed (grown w k) (storedCells w cells b k)
+      expected w ≤ b → b + k ≤ expected w + windowSize → b + k ≤ largest → w .count + k ≤ length cells → WellFormed (grown w k) (storedCells w cells b k)
   stored-keeps b n l near small room =
       let k = beforeHeld b n (held w cells) in
       record {
         fits = rw (length-append, length-stored b k (held w cells), length-held) (omega arith);
         near = rw (held-stored b k) (rises-stored (expected w + windowSize) (expected w) b k (held w cells) (h .near) l near (before-below b n (held w cells)));
-        small = rw (held-stored b k) (rises-stored maxNumber (expected w) b k (held w cells) (h .small) l small (before-below b n (held w cells)));
+        small = rw (held-stored b k) (rises-stored largest (expected w) b k (held w cells) (h .small) l small (before-below b n (held w cells)));
       }
 
   pub consumed-keeps : let k = runLength (expected w) (held w cells) in WellFormed (advanced w k) (consumedCells w cells k)
@@ -110,5 +111,5 @@ module _ (w : SlidingWindow) (cells : List ℕ) (h : WellFormed w cells) where
       record {
         fits = simp (length-append, length-drop, length-held) (omega arith);
         near = rw (held-consumed k) wider;
-        small = rw (held-consumed k) (rises-dropped maxNumber e (held w cells) (h .small));
+        small = rw (held-consumed k) (rises-dropped largest e (held w cells) (h .small));
       }

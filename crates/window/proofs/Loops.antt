@@ -11,9 +11,10 @@ use lib.ListN.{length, take, drop, getD, set, replicate, length-drop, drop-of-le
 use lib.Seq.{paste, length-take-le, drop-cons, getD-take, take-take, take-length, drop-drop, paste-suc, take-paste, drop-paste}
 use lib.Dec.{ltb, eqb}
 use borrow.Author.Tests.{le-ltb, ltb-true, ltb-false, eqb-true}
+use Rattle.lists.specs.Numbers.{largest}
 use Rattle.lists.proofs.Shift.{drop-take, take-before-paste, drop-at-paste}
 use Rattle.window.specs.declared.SlidingWindow.{SlidingWindow}
-use Rattle.window.specs.Window.{maxNumber, expected, held, wellFormed, member, rising, holdable, allHoldable, place, numbers, stored, beforeHeld, runLength}
+use Rattle.window.specs.Window.{expected, held, wellFormed, member, rising, holdable, allHoldable, place, numbers, stored, beforeHeld, runLength}
 use Rattle.window.proofs.Rises.{Rises, well-formed, is-holdable, holdable-is, both, is-member, not-before, place-from}
 
 -- the held numbers from i on: the one in cell i, and those from i + 1 on ..
@@ -171,9 +172,9 @@ run-below lo hi m (x ∷ xs) r h = by (run-below (suc x) hi (suc m) xs (r .2)) (
         omega (arith, ih l)
     by ih false t = omega arith
 
-pub run-fits : (w : SlidingWindow) (cells : List ℕ) → wellFormed w cells ≡ true → expected w ≤ maxNumber
-    → expected w + runLength (expected w) (held w cells) ≤ maxNumber
-run-fits w cells h l = run-below (expected w) maxNumber (expected w) (held w cells) (well-formed w cells h .small) l
+pub run-fits : (w : SlidingWindow) (cells : List ℕ) → wellFormed w cells ≡ true → expected w ≤ largest
+    → expected w + runLength (expected w) (held w cells) ≤ largest
+run-fits w cells h l = run-below (expected w) largest (expected w) (held w cells) (well-formed w cells h .small) l
 
 -- `fill`
 pub length-numbers : (b k : ℕ) → length (numbers b k) ≡ k

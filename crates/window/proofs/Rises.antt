@@ -9,8 +9,9 @@ use native.Mathlib.Omega.{arith}
 use lib.ListN.{length, take, getD}
 use lib.Dec.{ltb, leb, eqb}
 use borrow.Author.Tests.{lt-ltb, le-ltb, le-leb, lt-leb, eq-eqb, ne-eqb, ltb-true, ltb-false, leb-true, leb-false, not-true}
+use Rattle.lists.specs.Numbers.{largest}
 use Rattle.window.specs.declared.SlidingWindow.{SlidingWindow}
-use Rattle.window.specs.Window.{windowSize, maxNumber, expected, below, beyond, exhausted, held, member, rising, holdable, allHoldable, wellFormed, place}
+use Rattle.window.specs.Window.{windowSize, expected, below, beyond, exhausted, held, member, rising, holdable, allHoldable, wellFormed, place}
 
 -- the numbers rise, from lo on and below hi
 abbrev pub Rises : ℕ → ℕ → List ℕ → Type 0
@@ -20,7 +21,7 @@ Rises lo hi (x ∷ xs) = (lo ≤ x) × (x < hi) × Rises (suc x) hi xs
 pub record WellFormed (w : SlidingWindow) (cells : List ℕ) : Type 0 where
   pub fits : w .count ≤ length cells
   pub near : Rises (expected w) (expected w + windowSize) (held w cells)
-  pub small : Rises (expected w) maxNumber (held w cells)
+  pub small : Rises (expected w) largest (held w cells)
 
 -- both sides of a conjunction that holds
 pub both : (a b : Bool) → (a && b) ≡ true → (a ≡ true) × (b ≡ true)
@@ -31,7 +32,7 @@ both false b h = absurd (false≢true h)
 pub record Holdable (w : SlidingWindow) (n : ℕ) : Type 0 where
   pub above : expected w ≤ n
   pub near : n < expected w + windowSize
-  pub small : n < maxNumber
+  pub small : n < largest
 
 pub is-holdable : (w : SlidingWindow) (n : ℕ) → holdable w n ≡ true → Holdable w n
 is-holdable w n h =
@@ -39,10 +40,10 @@ is-holdable w n h =
     let a = both (not (below w n)) (not (beyond w n)) (ab .0) in
     let l = ltb-false n (expected w) (not-true (below w n) (a .0)) in
     let m = leb-false windowSize (n - expected w) (not-true (beyond w n) (a .1)) in
-    record { above = l; near = omega arith; small = leb-false maxNumber n (not-true (exhausted n) (ab .1)) }
+    record { above = l; near = omega arith; small = leb-false largest n (not-true (exhausted n) (ab .1)) }
 
 pub holdable-is : (w : SlidingWindow) (n : ℕ) → Holdable w n → holdable w n ≡ true
-holdable-is w n h = rw (le-ltb n (expected w) (h .above), lt-leb windowSize (n - expected w) (omega arith), lt-leb maxNumber n (h .small))
+holdable-is w n h = rw (le-ltb n (expected w) (h .above), lt-leb windowSize (n - expected w) (omega arith), lt-leb largest n (h .small))
 
 -- the test's two halves, as one fact for each bound, and back
 rises : (w : SlidingWindow) (hi : ℕ) (xs : List ℕ) → ((x : ℕ) → Holdable w x → x < hi) → rising xs ≡ true → allHoldable w xs ≡ true → Rises (expected w) hi xs
@@ -62,7 +63,7 @@ rising-is lo hi [] h = refl
 rising-is lo hi (x ∷ []) h = refl
 rising-is lo hi (x ∷ y ∷ ys) h = rw (lt-ltb x y (h .2 .0)) (rising-is (suc x) hi (y ∷ ys) (h .2))
 
-all-holdable : (w : SlidingWindow) (lo : ℕ) (xs : List ℕ) → expected w ≤ lo → Rises lo (expected w + windowSize) xs → Rises lo maxNumber xs → allHoldable w xs ≡ true
+all-holdable : (w : SlidingWindow) (lo : ℕ) (xs : List ℕ) → expected w ≤ lo → Rises lo (expected w + windowSize) xs → Rises lo largest xs → allHoldable w xs ≡ true
 unfolding allHoldable
 all-holdable w lo [] l a b = refl
 all-holdable w lo (x ∷ xs) l a b =
@@ -76,13 +77,13 @@ well-formed w cells h =
     record {
       fits = leb-true (w .count) (length cells) (f .0);
       near = rises w (expected w + windowSize) (held w cells) (λ x k. k .near) (f .1) (fr .1);
-      small = rises w maxNumber (held w cells) (λ x k. k .small) (f .1) (fr .1);
+      small = rises w largest (held w cells) (λ x k. k .small) (f .1) (fr .1);
     }
 
 pub well-formed-is : (w : SlidingWindow) (cells : List ℕ) → WellFormed w cells → wellFormed w cells ≡ true
 unfolding wellFormed
 well-formed-is w cells h =
-    rw (le-leb (w .count) (length cells) (h .fits), rising-is (expected w) maxNumber (held w cells) (h .small))
+    rw (le-leb (w .count) (length cells) (h .fits), rising-is (expected w) largest (held w cells) (h .small))
     (all-holdable w (expected w) (held w cells) (omega arith) (h .near) (h .small))
 
 module _ (hi : ℕ) where

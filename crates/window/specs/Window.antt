@@ -8,6 +8,7 @@ use lib.ListN.{length, take, drop, replicate}
 use lib.Dec.{ltb, leb, eqb}
 use Rattle.refusal.specs.Refusal.{numberOf}
 use Rattle.refusal.specs.Said.{Said, answers, refuses, checks}
+use Rattle.lists.specs.Numbers.{largest}
 use Rattle.window.specs.declared.SlidingWindow.{SlidingWindow}
 use Rattle.window.specs.declared.Inserted.{Inserted}
 use Rattle.window.specs.declared.Inserted.the-variants as inserted
@@ -19,10 +20,6 @@ use Rattle.window.specs.declared.Consumed.the-variants as consumed
 -- "the 40,000"
 abbrev pub windowSize : ℕ
 windowSize = 40000
-
--- 2^64 − 1
-abbrev pub maxNumber : ℕ
-maxNumber = 18446744073709551615
 
 -- what is said, the window left, the cells left
 abbrev pub Outcome : Type 0 → Type 0
@@ -58,7 +55,7 @@ beyond w n = leb windowSize (n - expected w)
 
 -- "n = 2^64 − 1", above which there is no number of 64 bits; of a held one, "above 2^64 − 2"
 abbrev pub exhausted : ℕ → Bool
-exhausted n = leb maxNumber n
+exhausted n = leb largest n
 
 -- "the cells are too few" for k numbers more
 abbrev pub tooFew : SlidingWindow → List ℕ → ℕ → Bool
@@ -124,7 +121,7 @@ beforeHeld b (suc k) xs = cond (member b xs) zero (suc (beforeHeld (suc b) k xs)
 
 abbrev pub rangeChecks : SlidingWindow → List ℕ → ℕ → ℕ → ℕ → List (Bool × ℕ)
 rangeChecks w cells base count k =
-    (below w base, 5) ∷ (ltb maxNumber (base + count), 9) ∷ (beyond w (base + count - 1), 6) ∷ (tooFew w cells k, 10) ∷ []
+    (below w base, 5) ∷ (ltb largest (base + count), 9) ∷ (beyond w (base + count - 1), 6) ∷ (tooFew w cells k, 10) ∷ []
 
 -- .. where k of the range's numbers stand before the first already held
 abbrev pub insertBefore : SlidingWindow → List ℕ → ℕ → ℕ → ℕ → Outcome Unit

@@ -8,7 +8,8 @@ ghost use Prim.Native.Nat.{_+_, _-_, _≤_, _<_};
 ghost use lib.ListN.{length, take, drop, replicate};
 ghost use lib.Seq.{paste};
 ghost use lib.Dec.{ltb};
-ghost use Rattle.window.specs.Window.{maxNumber, expected, window, held, rising, holdable, wellFormed, place, numbers, beforeHeld, runLength};
+ghost use Rattle.lists.specs.Numbers.{largest};
+ghost use Rattle.window.specs.Window.{expected, window, held, rising, holdable, wellFormed, place, numbers, beforeHeld, runLength};
 ghost use Rattle.window.specs.Window.{insertPacketNumber, insertRange, consume};
 ghost use Rattle.window.specs.Window.{insertedSays, windowAfterInsert, rangeInsertedSays, windowAfterRange, consumedSays, windowAfterConsume};
 
@@ -148,7 +149,7 @@ fn find_place(w: SlidingWindow, cells: &[u64], n: u64) -> usize
 // How many of the range's numbers, from base on, stand before the first that is held; `at` is base's place.
 // As the numbers rise, the first held one can stand nowhere but there.
 fn first_held(w: SlidingWindow, cells: &[u64], at: usize, base: u64, range: usize) -> usize
-    requires { ⌜ (wellFormed w (now cells) ≡ true) × (at ≡ place base (held w (now cells))) × (base + range ≤ maxNumber) ⌝ }
+    requires { ⌜ (wellFormed w (now cells) ≡ true) × (at ≡ place base (held w (now cells))) × (base + range ≤ largest) ⌝ }
     ensures { λ r. ⌜ (r ≡ beforeHeld base range (held w (now (cells .entry)))) × (r ≤ range) ⌝ }
 {
     let count = w.count;
@@ -180,7 +181,7 @@ fn shift_up(cells: &mut [u64], from: usize, count: usize, k: usize)
 
 // Writes base, base + 1 and so on, k numbers, from the cell `at` on.
 fn fill(cells: &mut [u64], at: usize, base: u64, k: usize)
-    requires { ⌜ (at + k ≤ length (now cells)) × (base + k ≤ maxNumber) ⌝ }
+    requires { ⌜ (at + k ≤ length (now cells)) × (base + k ≤ largest) ⌝ }
     ensures { λ _. ⌜ now (cells .exit) ≡ paste (now (cells .entry)) at (numbers base k) k ⌝ }
 {
     let mut i = 0;

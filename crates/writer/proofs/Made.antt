@@ -12,11 +12,12 @@ use lib.Dec.{ltb, leb, eqb}
 use borrow.Author.Tests.{not-false, eqb-true, ltb-true, ltb-false, leb-true, leb-false}
 use Rattle.refusal.specs.Said.{Said, answers, refuses}
 use Rattle.refusal.proofs.Checks.{Checked, passes, fails, checked}
+use Rattle.lists.specs.Numbers.{largest}
 use Rattle.packet.specs.Packet.{Packet, joined}
 use Rattle.packet.specs.Datagram.{readingLimit, cellsIn, parsed, parses, listed}
 use Rattle.packet.proofs.Trip.{Honest, Readable, last, before, parsed-joined, listed-joined}
 use Rattle.writer.specs.declared.DataPacked.{DataPacked}
-use Rattle.writer.specs.Packing.{Queue, largest, payloadSize, byteLimit, bytesTaken, packetsFor, cut, payloadsOf, dataPacket, numbered, packetsMade, removal, removed, shortened, remaining, sum, packing}
+use Rattle.writer.specs.Packing.{Queue, payloadSize, byteLimit, bytesTaken, packetsFor, cut, payloadsOf, dataPacket, numbered, packetsMade, removal, removed, shortened, remaining, sum, packing}
 use Rattle.writer.proofs.Run.{packets-zero, packets-suc, length-run}
 
 -- ---- any list of bytes, cut into as many payloads as it fills

@@ -10,8 +10,9 @@ use lib.Seq.{paste, length-take-le}
 use lib.Dec.{eqb}
 use borrow.Author.Tests.{lt-ltb, le-ltb}
 use Rattle.refusal.specs.Said.{Said, answers, refuses}
+use Rattle.lists.specs.Numbers.{largest}
 use Rattle.writer.specs.declared.DataPacked.{DataPacked}
-use Rattle.writer.specs.Packing.{largest, packetsFor, removed, sum, packing}
+use Rattle.writer.specs.Packing.{packetsFor, removed, sum, packing}
 use Rattle.writer.proofs.Run.{allOf}
 
 module _ (limit : ℕ) (bytes lengths : List ℕ) (next src dst : ℕ) (out : List ℕ) where

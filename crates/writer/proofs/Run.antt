@@ -8,6 +8,7 @@ use native.Mathlib.Omega.{arith}
 use native.Mathlib.Numerals.{add-one}
 use lib.ListN.{length, take, drop, length-append, length-take, length-drop}
 use lib.Seq.{paste, paste-zero, length-paste}
+use Rattle.lists.specs.Numbers.{largest}
 use Rattle.lists.proofs.Paste.{length-part, paste-behind}
 use Rattle.lists.proofs.Taken.{take-up-to, drop-up-to, paste-taken}
 use Rattle.header.specs.Header.{headerBytes, headerOf, withNumber}
@@ -17,7 +18,7 @@ use Rattle.header.specs.declared.BluefinHeader.{BluefinHeader}
 use Rattle.header.proofs.Trip.{length-header}
 use Rattle.packet.specs.Packet.{packetBytes, joined}
 use Rattle.packet.proofs.Alone.{length-packet}
-use Rattle.writer.specs.Packing.{largest, payloadSize, packetsFor, cut, dataPacket, numbered}
+use Rattle.writer.specs.Packing.{payloadSize, packetsFor, cut, dataPacket, numbered}
 
 -- One packet written: its header, then its payload right behind.
 module _ (src dst n : ℕ) (payload : List ℕ) {m : ℕ} {security : BluefinSecurityFields} {made header : BluefinHeader} (long : length payload ≡ m) where

@@ -7,6 +7,7 @@ use lib.Seq.{paste}
 use lib.Dec.{ltb, leb, eqb}
 use Rattle.refusal.specs.Refusal.{numberOf}
 use Rattle.refusal.specs.Said.{Said, answers, refuses, checks}
+use Rattle.lists.specs.Numbers.{largest}
 use Rattle.header.specs.Header.{headerOf, withNumber}
 use Rattle.header.specs.declared.PacketType.the-variants.{UnencryptedData}
 use Rattle.packet.specs.Packet.{Packet, joined}
@@ -18,10 +19,6 @@ use Rattle.writer.specs.declared.DataAnswer.the-variants as dataAnswer
 pub record Queue : Type 0 where
   pub bytes : List ℕ
   pub lengths : List ℕ
-
--- the largest packet number, 2^64 − 1
-abbrev pub largest : ℕ
-largest = 18446744073709551615
 
 -- "Every payload is 1,500 bytes"
 unfoldable pub payloadSize : ℕ

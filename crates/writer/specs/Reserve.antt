@@ -4,7 +4,7 @@ use mathlib.Core.List.{[], _∷_}
 use lib.Dec.{leb}
 use Rattle.refusal.specs.Refusal.{numberOf}
 use Rattle.refusal.specs.Said.{Said, answers, refuses, checks}
-use Rattle.writer.specs.Packing.{largest}
+use Rattle.lists.specs.Numbers.{largest}
 use Rattle.writer.specs.declared.ReserveAnswer.{ReserveAnswer}
 use Rattle.writer.specs.declared.ReserveAnswer.the-variants as reserveAnswer
 

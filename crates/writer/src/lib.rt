@@ -11,9 +11,10 @@ ghost use lib.ListN.{length, take, drop};
 ghost use lib.Seq.{paste};
 ghost use lib.Dec.{eqb};
 ghost use Rattle.refusal.specs.Said.{Said};
+ghost use Rattle.lists.specs.Numbers.{largest};
 ghost use Rattle.packet.specs.Packet.{packetBytes, joined};
 ghost use Rattle.writer.specs.declared.DataPacked.{DataPacked};
-ghost use Rattle.writer.specs.Packing.{largest, payloadSize, byteLimit, packetsFor, cut, dataPacket, numbered, removal, removed, sum, dataSays, packing};
+ghost use Rattle.writer.specs.Packing.{payloadSize, byteLimit, packetsFor, cut, dataPacket, numbered, removal, removed, sum, dataSays, packing};
 ghost use Rattle.writer.specs.PayloadBytes.{payloadBytes};
 ghost use Rattle.writer.specs.Reserve.{reserving, reserveSays};
 

@@ -1,6 +1,6 @@
 -- `ordered_bytes::buffer_in_packet_unchecked` meets its contract: each refusal in document 01's order, then the stored payload. Assumes nothing.
 use Prim.Native.Nat.{_-_, _<_}
-use mathlib.Core.Path.{_≡_, _∙_, ap}
+use mathlib.Core.Path.{_≡_, _∙_}
 use mathlib.Core.Bool.{false}
 use native.Mathlib.Nat.{le-of-lt}
 use native.Mathlib.Omega.{arith}

@@ -6,7 +6,8 @@ use native.Mathlib.Omega.{arith}
 use lib.ListN.{length, take, getD}
 use lib.Seq.{length-take-le, take-take, getD-take}
 use borrow.Author.Needs.{needs}
-use Rattle.window.specs.Window.{maxNumber, expected, held, place}
+use Rattle.lists.specs.Numbers.{largest}
+use Rattle.window.specs.Window.{expected, held, place}
 use Rattle.window.proofs.Rises.{well-formed, rises-take, place-behind}
 use Rattle.window.proofs.Loops.{place-back}
 use Rattle.window.proofs.find_place.Statement.{statement}
@@ -46,9 +47,9 @@ returns c =
     let wf = well-formed (a .w) (a .cells .now) (l .before .pre) in
     let q : suc (i - 1) ≡ i = omega arith in
     let long : length (take i (a .cells .now)) ≡ suc (i - 1) = length-take-le i (a .cells .now) (omega arith) ∙ sym q in
-    let first = rw (take-take i (a .w .count) (a .cells .now) (omega arith)) at (rises-take maxNumber (expected (a .w)) i (held (a .w) (a .cells .now)) (wf .small)) in
+    let first = rw (take-take i (a .w .count) (a .cells .now) (omega arith)) at (rises-take largest (expected (a .w)) i (held (a .w) (a .cells .now)) (wf .small)) in
     let last : getD (take i (a .cells .now)) (i - 1) 0 < a .n = rw (getD-take i (a .cells .now) (i - 1) 0 (omega arith)) (omega arith) in
-    (sym (l .loop .inv .1 ∙ place-behind maxNumber (expected (a .w)) (a .n) (i - 1) (take i (a .cells .now)) first long last ∙ q), omega arith)
+    (sym (l .loop .inv .1 ∙ place-behind largest (expected (a .w)) (a .n) (i - 1) (take i (a .cells .now)) first long last ∙ q), omega arith)
 
 sub-i : tie.Need-sub-i Inv-loop μ-loop
 sub-i c = search needs

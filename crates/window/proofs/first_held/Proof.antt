@@ -6,7 +6,8 @@ use mathlib.Core.Logic.{⊎-elim}
 use native.Mathlib.Omega.{arith}
 use lib.ListN.{take, getD}
 use borrow.Author.Needs.{needs}
-use Rattle.window.specs.Window.{maxNumber, expected, held, beforeHeld}
+use Rattle.lists.specs.Numbers.{largest}
+use Rattle.window.specs.Window.{expected, held, beforeHeld}
 use Rattle.window.proofs.Rises.{well-formed}
 use Rattle.window.proofs.Loops.{place-cell, held-cell, not-held-cell, before-at}
 use Rattle.window.proofs.first_held.Statement.{statement}
@@ -63,7 +64,7 @@ loop-again c =
     let past : a .at < a .w .count → n < getD (a .cells .now) (a .at) 0 = λ h.
     let g = l .loop .inv .1 h in
     ⊎-elim (λ v. let d : getD (a .cells .now) (a .at) 0 ≡ n → ⊥ = v .2 .left in omega arith) (λ v. let d = v .left in omega arith) (c .if2 .came) in
-    let free = not-held-cell (expected (a .w)) maxNumber (a .base) n (a .w .count) (a .at) (a .cells .now) (wf .small) (wf .fits) (pre .1) (omega arith) past in
+    let free = not-held-cell (expected (a .w)) largest (a .base) n (a .w .count) (a .at) (a .cells .now) (wf .small) (wf .fits) (pre .1) (omega arith) past in
     let turn = before-at n (a .range) (l .loop .i) (held (a .w) (a .cells .now)) (omega arith) in
     let z : n + 1 ≡ a .base + (l .loop .i + 1) = omega arith in
     (omega arith, (λ h. omega (arith, past h)), l .loop .inv .2 ∙ rw (turn, free, z) (omega arith))

@@ -9,7 +9,8 @@ use lib.ListN.{length}
 use borrow.Author.Needs.{needs}
 use borrow.Author.Tests.{lt-ltb, le-ltb, le-leb, lt-leb}
 use Rattle.refusal.specs.Said.{answers, checks}
-use Rattle.window.specs.Window.{maxNumber, held, member, insertPacketNumber, refused, tooFew, grown, storedCells}
+use Rattle.lists.specs.Numbers.{largest}
+use Rattle.window.specs.Window.{held, member, insertPacketNumber, refused, tooFew, grown, storedCells}
 use Rattle.window.proofs.Loops.{one-held, one-free, stored-is}
 use Rattle.window.proofs.insert_packet_number_unchecked.Statement.{statement}
 use Rattle.window.proofs.insert_packet_number_unchecked.Tie as tie
@@ -28,7 +29,7 @@ past : (c : tie.Else3) →
     insertPacketNumber (a .w) cells (a .n)
     ≡ checks ((member (a .n) (held (a .w) cells), 7) ∷ (tooFew (a .w) cells 1, 10) ∷ []) (refused (a .w) cells) (answers tt, grown (a .w) 1, storedCells (a .w) cells (a .n) 1)
 unfolding insertPacketNumber
-past c = simp (start₃ c .pre, le-ltb _ _ (c .before .before .if1 .left), lt-leb _ _ (c .before .if2 .left), lt-leb maxNumber (start₃ c .args .n) (omega arith))
+past c = simp (start₃ c .pre, le-ltb _ _ (c .before .before .if1 .left), lt-leb _ _ (c .before .if2 .left), lt-leb largest (start₃ c .args .n) (omega arith))
 
 -- past the search n is not held
 free : (c : tie.Else4) → let a = start₃ (else₃ (c .before)) .args in member (a .n) (held (a .w) (a .cells .now)) ≡ false
@@ -52,7 +53,7 @@ unfolding insertPacketNumber
 returns-3 c =
     let e = c .before in
     let start = e .before .before .before in
-    simp (start .pre, le-ltb _ _ (e .before .if1 .left), lt-leb _ _ (e .if2 .left), le-leb maxNumber (start .args .n) (omega arith))
+    simp (start .pre, le-ltb _ _ (e .before .if1 .left), lt-leb _ _ (e .if2 .left), le-leb largest (start .args .n) (omega arith))
 
 find-place-requires : tie.Need-find-place-requires
 find-place-requires c κs = start₃ (c .before) .pre

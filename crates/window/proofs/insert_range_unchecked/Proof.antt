@@ -10,7 +10,8 @@ use lib.ListN.{length}
 use borrow.Author.Needs.{needs}
 use borrow.Author.Tests.{lt-ltb, le-ltb, le-leb, lt-leb, eq-eqb, ne-eqb}
 use Rattle.refusal.specs.Said.{answers, refuses, checks}
-use Rattle.window.specs.Window.{maxNumber, grown, storedCells, insertRange, refused, tooFew}
+use Rattle.lists.specs.Numbers.{largest}
+use Rattle.window.specs.Window.{grown, storedCells, insertRange, refused, tooFew}
 use Rattle.window.proofs.Rises.{well-formed}
 use Rattle.window.proofs.Loops.{stored-is}
 use Rattle.window.proofs.insert_range_unchecked.Statement.{statement}
@@ -26,7 +27,7 @@ else₄ c = c .before .before .before .before
 fits : (c : tie.Else4) → start₄ c .args .w .count ≤ length (start₄ c .args .cells .now)
 fits c = well-formed _ _ (start₄ c .pre) .fits
 
-ends : (c : tie.Else4) → start₄ c .args .base + start₄ c .args .count ≤ maxNumber
+ends : (c : tie.Else4) → start₄ c .args .base + start₄ c .args .count ≤ largest
 ends c = omega arith
 
 -- what is left of the definition there, with the numbers found to stand before the first held one
@@ -40,7 +41,7 @@ unfolding insertRange
 past c =
     let e = else₄ c in
     let a = start₄ e .args in
-    simp (start₄ e .pre, ne-eqb _ _ (e .before .before .before .if1 .left), le-ltb _ _ (e .before .before .if2 .left), le-ltb maxNumber (a .base + a .count) (ends e), lt-leb _ _ (e .if4 .left), sym (c .first-held .ensures .0))
+    simp (start₄ e .pre, ne-eqb _ _ (e .before .before .before .if1 .left), le-ltb _ _ (e .before .before .if2 .left), le-ltb largest (a .base + a .count) (ends e), lt-leb _ _ (e .if4 .left), sym (c .first-held .ensures .0))
 
 short : (len count k : ℕ) → count ≤ len → len - count < k → len < count + k
 short len count k h l = omega arith
@@ -79,7 +80,7 @@ returns-3 c =
     let e = c .before in
     let start = e .before .before .before in
     let a = start .args in
-    simp (start .pre, ne-eqb _ _ (e .before .if1 .left), le-ltb _ _ (e .if2 .left), lt-ltb maxNumber (a .base + a .count) (omega arith))
+    simp (start .pre, ne-eqb _ _ (e .before .if1 .left), le-ltb _ _ (e .if2 .left), lt-ltb largest (a .base + a .count) (omega arith))
 
 add-if4 : tie.Need-add-if4
 add-if4 c = search needs
@@ -96,7 +97,7 @@ returns-4 c =
     let e = c .before in
     let start = e .before .before .before .before in
     let a = start .args in
-    simp (start .pre, ne-eqb _ _ (e .before .before .if1 .left), le-ltb _ _ (e .before .if2 .left), le-ltb maxNumber (a .base + a .count) (omega arith), le-leb _ _ (c .if4 .taken))
+    simp (start .pre, ne-eqb _ _ (e .before .before .if1 .left), le-ltb _ _ (e .before .if2 .left), le-ltb largest (a .base + a .count) (omega arith), le-leb _ _ (c .if4 .taken))
 
 find-place-requires : tie.Need-find-place-requires
 find-place-requires c κs = start₄ (c .before) .pre

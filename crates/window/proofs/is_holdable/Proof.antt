@@ -5,7 +5,7 @@ use mathlib.Core.Bool.{Bool, true, false, not}
 use mathlib.Core.Path.{_≡_, refl}
 use lib.Dec.{ltb, leb}
 use borrow.Author.Tests.{lt-ltb, le-ltb, le-leb, lt-leb, leb-true, leb-false}
-use Rattle.window.specs.Window.{maxNumber}
+use Rattle.lists.specs.Numbers.{largest}
 use Rattle.window.proofs.is_holdable.Statement.{statement}
 use Rattle.window.proofs.is_holdable.Tie as tie
 
@@ -24,7 +24,7 @@ returns-2 : tie.Need-returns-2
 returns-2 c = simp (le-ltb _ _ (c .before .if1 .left), le-leb _ _ (c .if2 .taken))
 
 returns-3 : tie.Need-returns-3
-returns-3 c = simp (le-ltb _ _ (c .before .if1 .left), lt-leb _ _ (c .if2 .left)) (less (c .before .before .args .n) maxNumber)
+returns-3 c = simp (le-ltb _ _ (c .before .if1 .left), lt-leb _ _ (c .if2 .left)) (less (c .before .before .args .n) largest)
 
 pub is-holdable-spec : {M : Type 1} → statement M
 is-holdable-spec = tie.close (tie.spec returns returns-2 returns-3)

@@ -7,7 +7,8 @@ use lib.Seq.{length-take-le}
 use lib.ListN.{take, drop, getD}
 use borrow.Author.Needs.{needs}
 use borrow.Author.Tests.{eq-eqb, ne-eqb}
-use Rattle.window.specs.Window.{maxNumber, expected, held, runLength}
+use Rattle.lists.specs.Numbers.{largest}
+use Rattle.window.specs.Window.{expected, held, runLength}
 use Rattle.window.proofs.Rises.{well-formed, rises-at}
 use Rattle.window.proofs.Loops.{run-at, run-end}
 use Rattle.window.proofs.run_length.Statement.{statement}
@@ -41,7 +42,7 @@ add-if1 c =
     let l = c .before .before in
     let a = l .before .args in
     let wf = well-formed (a .w) (a .cells .now) (l .before .pre) in
-    let at = rises-at maxNumber (expected (a .w)) (l .loop .i) (held (a .w) (a .cells .now)) (wf .small) (rw (length-take-le (a .w .count) (a .cells .now) (wf .fits)) (omega arith)) in
+    let at = rises-at largest (expected (a .w)) (l .loop .i) (held (a .w) (a .cells .now)) (wf .small) (rw (length-take-le (a .w .count) (a .cells .now) (wf .fits)) (omega arith)) in
     omega arith
 
 returns : tie.Need-returns Inv-loop μ-loop

@@ -9,7 +9,8 @@ use lib.Dec.{eqb}
 use denote.Ref.{now}
 use borrow.Author.Needs.{needs}
 use borrow.Author.Tests.{not-true, not-false}
-use Rattle.writer.specs.Packing.{largest, payloadSize, packetsFor, sum}
+use Rattle.lists.specs.Numbers.{largest}
+use Rattle.writer.specs.Packing.{payloadSize, packetsFor, sum}
 use Rattle.writer.proofs.Packed.{malformed, exhausted, short, packed}
 use Rattle.writer.proofs.consume_data_up_to.Statement.{statement}
 use Rattle.writer.proofs.consume_data_up_to.Tie as tie

@@ -1,7 +1,7 @@
 -- `ordered_bytes::state::held_from` meets its contract. The invariant: none of the distances passed is held, so what is left decides.
 -- Assumes nothing.
 use Prim.Native.Nat.{_+_, _-_}
-use mathlib.Core.Path.{_≡_, refl, sym, ap, _∙_}
+use mathlib.Core.Path.{_≡_, refl, sym, _∙_}
 use mathlib.Core.Bool.{false, _||_}
 use native.Mathlib.Omega.{arith}
 use lib.ListN.{drop, getD}
