@@ -16,7 +16,10 @@ fn main() {
     println!("cargo:rustc-check-cfg=cfg(kani)");
     println!("cargo:rustc-env=BLUEFIN={}", original.display());
     println!("cargo:rerun-if-env-changed=BLUEFIN_SRC");
-    println!("cargo:rerun-if-changed={}", here.join("SHA256SUMS").display());
+    println!(
+        "cargo:rerun-if-changed={}",
+        here.join("SHA256SUMS").display()
+    );
     println!("cargo:rerun-if-changed={}", here.join("src/net").display());
     println!("cargo:rerun-if-changed={}", original.display());
 }
@@ -28,9 +31,12 @@ fn published(here: &Path) -> PathBuf {
         None => here.join("../../shared/docs/src"),
     };
     let original = src.join("bluefin/src");
-    original
-        .canonicalize()
-        .unwrap_or_else(|_| panic!("no published files at {}: set BLUEFIN_SRC", original.display()))
+    original.canonicalize().unwrap_or_else(|_| {
+        panic!(
+            "no published files at {}: set BLUEFIN_SRC",
+            original.display()
+        )
+    })
 }
 
 fn check_sums(here: &Path, original: &Path) {
@@ -40,7 +46,10 @@ fn check_sums(here: &Path, original: &Path) {
         .current_dir(original)
         .status()
         .expect("sha256sum runs");
-    assert!(status.success(), "the published files are not those of SHA256SUMS");
+    assert!(
+        status.success(),
+        "the published files are not those of SHA256SUMS"
+    );
 }
 
 /// `net/` as the compiler meets it: two files of the original, and ours from src/net beside them.

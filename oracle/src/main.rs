@@ -1,4 +1,4 @@
-//! Asks the published Rust, and keeps its answers as crates/replay_NAME/stdin and stdout, beside this folder.
+//! Asks the published Rust, and keeps its answers as stdin and stdout of the program that replays them, crates/replay_NAME.
 //! `cargo run` writes them; `cargo run -- --check` says whether they are what would be written.
 
 #![allow(dead_code, unused_imports)]
@@ -21,9 +21,10 @@ use std::{env, fs, process};
 /// Writes or checks the record of one component; answers whether it is as it should be.
 fn keep<C: Component>(check: bool) -> bool {
     let told = record::<C>();
+    let program = format!("{}/replay_{}", C::FOLDER, C::NAME);
     let folder = Path::new(env!("CARGO_MANIFEST_DIR"))
-        .join("../crates")
-        .join(format!("replay_{}", C::NAME));
+        .join("..")
+        .join(&program);
     println!(
         "{}: {} commands, {} left out, {} bytes",
         C::NAME,
@@ -38,7 +39,7 @@ fn keep<C: Component>(check: bool) -> bool {
             fs::create_dir_all(&folder).expect("a folder for the record");
             fs::write(&path, bytes).expect("the record is written");
         } else if fs::read(&path).ok() != Some(bytes) {
-            println!("{}: crates/replay_{}/{name} differs", C::NAME, C::NAME);
+            println!("{}: {program}/{name} differs", C::NAME);
             return false;
         }
     }
@@ -49,7 +50,10 @@ fn main() {
     let check = env::args().any(|arg| arg == "--check");
     // An input at which the published files panic is left out, without a message. A panic of the oracle's own files ends it.
     std::panic::set_hook(Box::new(|panic| {
-        if panic.location().map_or(true, |at| at.file().starts_with("src/")) {
+        if panic
+            .location()
+            .map_or(true, |at| at.file().starts_with("src/"))
+        {
             eprintln!("{panic}");
             process::abort();
         }
@@ -61,6 +65,7 @@ fn main() {
         keep::<components::ordered_bytes::Buffer>(check),
         keep::<components::close_handler::Close>(check),
         keep::<components::net::Net>(check),
+        keep::<components::ring_buffer::Ring>(check),
     ];
     if same.contains(&false) {
         process::exit(1);

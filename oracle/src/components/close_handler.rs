@@ -112,7 +112,9 @@ impl Component for Close {
         match question.op {
             NEW => *self = Close::new(number != 0),
             FIN => self.record.buffer_in_fin(&packet(PacketType::Fin, number)),
-            FIN_ACK => self.record.buffer_in_fin_ack(&packet(PacketType::FinAck, number)),
+            FIN_ACK => self
+                .record
+                .buffer_in_fin_ack(&packet(PacketType::FinAck, number)),
             LOCAL_FIN => self.record.record_local_fin_sent(number),
             TAKE => taken = self.record.take_pending_fin_ack_send(),
             MARK_CLOSED => self.record.mark_closed(),

@@ -5,4 +5,5 @@ pub mod header;
 pub mod net;
 pub mod ordered_bytes;
 pub mod packet;
+pub mod ring_buffer;
 pub mod window;

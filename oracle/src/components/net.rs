@@ -89,7 +89,10 @@ impl Component for Net {
         }
         for number in [0, 1, 0x0102030405060708, u64::MAX] {
             for packet_type in 0..7 {
-                cases.push(ask(BUILD_EMPTY, &[0x01020304, 0x05060708, number, packet_type]));
+                cases.push(ask(
+                    BUILD_EMPTY,
+                    &[0x01020304, 0x05060708, number, packet_type],
+                ));
             }
             for op in [FIN, FIN_ACK] {
                 cases.push(ask(op, &[0x01020304, 0x05060708, number]));
@@ -106,7 +109,10 @@ impl Component for Net {
                 IS_HELLO + op,
                 &[rng.below(3), rng.below(7), source, destination],
             ),
-            2 => ask(BUILD_EMPTY, &[source, destination, rng.next(), rng.below(7)]),
+            2 => ask(
+                BUILD_EMPTY,
+                &[source, destination, rng.next(), rng.below(7)],
+            ),
             op => ask(FIN + op - 3, &[source, destination, rng.next()]),
         }
     }
@@ -126,8 +132,13 @@ impl Component for Net {
             }
             BUILD_EMPTY => {
                 let packet_type = TYPES[w[3] as usize];
-                let packet = build_empty_encrypted_packet(w[0] as u32, w[1] as u32, w[2], packet_type);
-                [&[packet.payload.len() as u64], &fields_of(&packet.header)[..]].concat()
+                let packet =
+                    build_empty_encrypted_packet(w[0] as u32, w[1] as u32, w[2], packet_type);
+                [
+                    &[packet.payload.len() as u64],
+                    &fields_of(&packet.header)[..],
+                ]
+                .concat()
             }
             op @ (FIN | FIN_ACK) => {
                 let datagram = self.sent(op, w[0] as u32, w[1] as u32, w[2]);

@@ -46,11 +46,7 @@ fn parse(datagram: &[u8]) -> Vec<u64> {
     let into = BluefinPacket::from_bytes_into(Bytes::copy_from_slice(datagram), &mut kept);
     let (written, cursor) = cells(&kept, datagram);
     let mut answer = match BluefinPacket::from_bytes(datagram) {
-        Ok(packets) => [
-            &[0, packets.len() as u64],
-            &cells(&packets, datagram).0[..],
-        ]
-        .concat(),
+        Ok(packets) => [&[0, packets.len() as u64], &cells(&packets, datagram).0[..]].concat(),
         Err(error) => vec![refusal(error), cursor as u64],
     };
     answer.extend(match into {
@@ -89,7 +85,11 @@ fn random_datagram(rng: &mut Xorshift) -> Vec<u8> {
         if fields[1] == 3 {
             fields[2] = payload;
         }
-        datagram.extend(header_of(&fields).expect("fields within their bits").serialise());
+        datagram.extend(
+            header_of(&fields)
+                .expect("fields within their bits")
+                .serialise(),
+        );
         datagram.extend(rng.bytes(payload));
     }
     let length = datagram.len() as u64;

@@ -107,7 +107,14 @@ impl Component for Window {
             ],
         );
         // A range that fills all, and the same in two orders.
-        list(5, &[&[INSERT_RANGE, 5, 40_000], &[INSERT_RANGE, 5, 1], &[CONSUME]]);
+        list(
+            5,
+            &[
+                &[INSERT_RANGE, 5, 40_000],
+                &[INSERT_RANGE, 5, 1],
+                &[CONSUME],
+            ],
+        );
         list(
             5,
             &[
@@ -136,8 +143,18 @@ impl Component for Window {
                 &[INSERT, end],
             ],
         );
-        list(end - 39_999, &[&[INSERT, end], &[INSERT, end - 1], &[INSERT, end - 2]]);
-        list(end - 40_000, &[&[INSERT, end], &[INSERT, end - 1], &[INSERT_RANGE, end - 2, 2]]);
+        list(
+            end - 39_999,
+            &[&[INSERT, end], &[INSERT, end - 1], &[INSERT, end - 2]],
+        );
+        list(
+            end - 40_000,
+            &[
+                &[INSERT, end],
+                &[INSERT, end - 1],
+                &[INSERT_RANGE, end - 2, 2],
+            ],
+        );
         cases
     }
 
@@ -161,7 +178,11 @@ impl Component for Window {
             0 | 1 => ask(CONSUME, &[]),
             2..=5 => ask(INSERT, &[n]),
             _ => {
-                let count = if rng.one_in(12) { rng.below(300) } else { rng.below(6) };
+                let count = if rng.one_in(12) {
+                    rng.below(300)
+                } else {
+                    rng.below(6)
+                };
                 ask(INSERT_RANGE, &[n, count])
             }
         }
