@@ -66,6 +66,7 @@ fn main() {
         keep::<components::close_handler::Close>(check),
         keep::<components::net::Net>(check),
         keep::<components::ring_buffer::Ring>(check),
+        keep::<components::writer::Writer>(check),
     ];
     if same.contains(&false) {
         process::exit(1);

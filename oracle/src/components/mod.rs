@@ -7,3 +7,4 @@ pub mod ordered_bytes;
 pub mod packet;
 pub mod ring_buffer;
 pub mod window;
+pub mod writer;
