@@ -67,6 +67,7 @@ fn main() {
         keep::<components::net::Net>(check),
         keep::<components::ring_buffer::Ring>(check),
         keep::<components::writer::Writer>(check),
+        keep::<components::acks::Acks>(check),
     ];
     if same.contains(&false) {
         process::exit(1);

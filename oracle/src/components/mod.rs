@@ -1,5 +1,6 @@
 //! One file for each component: what it is asked, and how the Rust answers.
 
+pub mod acks;
 pub mod close_handler;
 pub mod header;
 pub mod net;
