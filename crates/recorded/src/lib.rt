@@ -69,3 +69,8 @@ pub fn print_bytes(bytes: &[u8]) {
 pub fn end_line() {
     io::write_all(STDOUT_FILENO, b"\n");
 }
+
+// What stands for bytes that are too many to print: each of them, and where it stands, counts.
+pub fn add_byte(sum: u64, byte: u8) -> u64 {
+    sum % 1_000_000_007 * 257 + byte as u64 + 1
+}

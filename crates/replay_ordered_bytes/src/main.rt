@@ -143,13 +143,12 @@ fn print_result(r: ConsumeResult) {
     recorded::print_number(r.bytes_consumed);
 }
 
-fn add_byte(sum: u64, byte: u8) -> u64 {
-    sum % 1_000_000_007 * 257 + byte as u64 + 1
-}
-
 // A number of at most 16 bits, as two bytes.
 fn add_number(sum: u64, n: u64) -> u64 {
-    add_byte(add_byte(sum, (n / 256 % 256) as u8), (n % 256) as u8)
+    recorded::add_byte(
+        recorded::add_byte(sum, (n / 256 % 256) as u8),
+        (n % 256) as u8,
+    )
 }
 
 fn add_part(sum: u64, bytes: &[u8], start: usize, count: usize) -> u64 {
@@ -157,7 +156,7 @@ fn add_part(sum: u64, bytes: &[u8], start: usize, count: usize) -> u64 {
     let mut at = start;
     let mut left = count;
     while left > 0 && at < bytes.len() {
-        after = add_byte(after, bytes[at]);
+        after = recorded::add_byte(after, bytes[at]);
         at += 1;
         left -= 1;
     }

@@ -18,15 +18,11 @@ const OUT_LEN: usize = 16384;
 // What output bytes hold before a packing.
 const BEFORE: u8 = 9;
 
-fn add_byte(sum: u64, byte: u8) -> u64 {
-    sum % 1_000_000_007 * 257 + byte as u64 + 1
-}
-
 fn sum_of(bytes: &[u8]) -> u64 {
     let mut sum = 0;
     let mut i = 0;
     while i < bytes.len() {
-        sum = add_byte(sum, bytes[i]);
+        sum = recorded::add_byte(sum, bytes[i]);
         i += 1;
     }
     sum
