@@ -18,9 +18,6 @@ ghost use Rattle.ring_buffer.specs.Ring.{wellFormed, contents, blanked};
 ghost use Rattle.writer.specs.Acks.{ackHeader, ackBytes, tooLarge, anyTooLarge, acksSays, ringAfter, leaves, consumesAcks};
 ghost use Rattle.writer.specs.AckSteps.{malformed, due, decided, verdictSays, batch as batchOf, saying, leaving, Packable};
 
-// worker/writer.rs, `MAX_BLUEFIN_BYTES_IN_UDP_DATAGRAM`.
-const MAX_BLUEFIN_BYTES_IN_UDP_DATAGRAM: usize = 15200;
-
 // How many acks were packed, and whether there is anything to send.
 pub struct AcksPacked {
     pub acks: usize,
@@ -66,10 +63,10 @@ fn acks_due(ring: RingBuffer, capacity: usize, used: usize, room: usize) -> usiz
     if is_malformed(ring, capacity, used, room) {
         return 0;
     }
-    if MAX_BLUEFIN_BYTES_IN_UDP_DATAGRAM < used {
+    if net::MAX_BLUEFIN_BYTES_IN_UDP_DATAGRAM < used {
         return 0;
     }
-    let fitting = (MAX_BLUEFIN_BYTES_IN_UDP_DATAGRAM - used) / 20;
+    let fitting = (net::MAX_BLUEFIN_BYTES_IN_UDP_DATAGRAM - used) / 20;
     if len < fitting { len } else { fitting }
 }
 

@@ -20,11 +20,10 @@ ghost use Rattle.writer.specs.Reserve.{reserving, reserveSays};
 
 pub mod acks;
 
-// The Rust's MAX_BLUEFIN_PAYLOAD_SIZE_BYTES.
-const PAYLOAD_SIZE: usize = 1500;
+const PAYLOAD_SIZE: usize = net::MAX_BLUEFIN_PAYLOAD_SIZE_BYTES;
 
 // The payload bytes of a full datagram: its 15,200 bytes less ten headers.
-const BYTE_LIMIT: usize = 15000;
+const BYTE_LIMIT: usize = net::MAX_BLUEFIN_PACKETS_IN_UDP_DATAGRAM * PAYLOAD_SIZE;
 
 // The largest packet number that the next one may become.
 const LARGEST: u64 = 18446744073709551615;
