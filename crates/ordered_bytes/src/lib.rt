@@ -14,6 +14,7 @@ mod state;
 mod stream;
 
 // What is small of the buffer. The rest is lent beside it: a mark and a length for each slot, and the store of (N + 1) × W bytes.
+#[repr(C)]
 pub struct OrderedBytes {
     pub slot_width: usize,
     pub front_slot: usize,

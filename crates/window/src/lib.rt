@@ -19,6 +19,7 @@ pub const MAX_SLIDING_WINDOW_SIZE: u64 = 40000;
 // The last number of 64 bits, which no packet has.
 const MAX_NUMBER: u64 = 0xffff_ffff_ffff_ffff;
 
+#[repr(C)]
 pub struct SlidingWindow {
     pub smallest_expected: u64,
     pub count: usize,
