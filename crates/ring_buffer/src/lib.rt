@@ -13,12 +13,14 @@ ghost use Rattle.ring_buffer.specs.Says.{countedSays, testedSays, pushed
 ghost use Rattle.ring_buffer.specs.Places.{backPlace, frontPlace, popPlace, clearTurns};
 
 // The Rust's worker/writer.rs, `AckData`; the count has document 01's 32 bits.
+#[repr(C)]
 pub struct AckData {
     pub base_packet_num: u64,
     pub num_packets_consumed: u32,
 }
 
 // The Rust's utils/ring_buffer.rs, `RingBuffer`, without the buffer, which is lent, and the capacity, which is its length.
+#[repr(C)]
 pub struct RingBuffer {
     pub head: usize,
     pub tail: usize,
