@@ -1,0 +1,16 @@
+-- Laws of the flat answers. Assumes nothing.
+use mathlib.Core.Path.{_≡_, sym, ap, _∙_}
+use Prim.Native.Nat.{_<_}
+use borrow.Author.Tests.{lt-ltb}
+use Rattle.refusal.specs.Said.{Said}
+use Rattle.bluefin_c.specs.Answers.{firstBy}
+use Rattle.bluefin_c.specs.Headers.{unlessUnknown}
+use Rattle.bluefin_c.specs.declared.headers.Header.{Header}
+
+-- an answer made flat, beside what is left
+pub flat-first : {A B L : Type 0} (f : A → B) {r : B} {a : A} {l : L} {d : A × L} → r ≡ f a → _≡_ {A = A × L} (a, l) d → _≡_ {A = B × L} (r, l) (firstBy f d)
+flat-first {B = B} {L = L} f {l = l} is says = ap {B = B × L} (λ x. (x, l)) is ∙ ap (firstBy f) says
+
+-- a known type is written as it stands
+pub known : {A L : Type 0} (h : Header) (left : L) (p : Said A × L) → h .«type_field» < 7 → p ≡ unlessUnknown h left p
+known h left p k = simp (lt-ltb _ _ k)

@@ -1,0 +1,49 @@
+-- `bluefin_c::headers::bluefin_header_serialise_into` meets its contract. Assumes nothing.
+use mathlib.Core.Path.{ap, _∙_}
+use borrow.Author.Tests.{le-ltb}
+use Rattle.header.specs.Header.{serialisesInto}
+use Rattle.bluefin_c.specs.Headers.{writtenOf}
+use Rattle.bluefin_c.proofs.Flat.{flat-first, known}
+use denote.Ref.{now}
+use borrow.Author.Needs.{needs}
+use Rattle.bluefin_c.proofs.headers.bluefin_header_serialise_into.Statement.{statement}
+use Rattle.bluefin_c.proofs.headers.bluefin_header_serialise_into.Tie as tie
+
+written-of-requires : tie.Need-written-of-requires
+written-of-requires c κs = search needs
+
+returns : tie.Need-returns
+returns c = simp (c .written-of .ensures, le-ltb _ _ (c .before .if1 .taken))
+
+header-in-requires : tie.Need-header-in-requires
+header-in-requires c κs = search needs
+
+serialise-into-requires : tie.Need-serialise-into-requires
+serialise-into-requires c κs = search needs
+
+written-of-requires-2 : tie.Need-written-of-requires-2
+written-of-requires-2 c κs = search needs
+
+same-length : tie.Need-same-length
+same-length c = search needs
+
+returns-2 : tie.Need-returns-2
+returns-2 c =
+    let wrote = c .before .before .before in
+    let typed = wrote .before .before in
+    let a = typed .before .before .before .before .args in
+    flat-first writtenOf (c .written-of2 .ensures) (
+    wrote .serialise-into .ensures ∙ ap (λ h. serialisesInto h (now (a .buf))) (typed .header-in .ensures) ∙ known (a .header) (now (a .buf)) _ (typed .before .if1 .left)
+    )
+
+pub bluefin-header-serialise-into-spec : {M : Type 1} → statement M
+bluefin-header-serialise-into-spec =
+    tie.close
+    (tie.spec
+    written-of-requires
+    returns
+    header-in-requires
+    serialise-into-requires
+    written-of-requires-2
+    same-length
+    returns-2)
