@@ -1,10 +1,14 @@
 -- Laws of the flat answers. Assumes nothing.
 use mathlib.Core.Path.{_≡_, sym, ap, _∙_}
-use Prim.Native.Nat.{_<_}
+use Prim.Native.Nat.{ℕ, _<_}
+use mathlib.Core.List.{List}
 use borrow.Author.Tests.{lt-ltb}
 use Rattle.refusal.specs.Said.{Said}
 use Rattle.bluefin_c.specs.Answers.{firstBy}
+use Rattle.window.specs.Window.{Outcome}
+use Rattle.window.specs.declared.SlidingWindow.{SlidingWindow}
 use Rattle.bluefin_c.specs.Headers.{unlessUnknown}
+use Rattle.bluefin_c.specs.Acked.{flatOutcome}
 use Rattle.bluefin_c.specs.declared.headers.Header.{Header}
 
 -- an answer made flat, beside what is left
@@ -14,3 +18,8 @@ flat-first {B = B} {L = L} f {l = l} is says = ap {B = B × L} (λ x. (x, l)) is
 -- a known type is written as it stands
 pub known : {A L : Type 0} (h : Header) (left : L) (p : Said A × L) → h .«type_field» < 7 → p ≡ unlessUnknown h left p
 known h left p k = simp (lt-ltb _ _ k)
+
+-- an answer of the window and the window left, made flat
+pub flat-window : {A R : Type 0} (f : Said A → SlidingWindow → R) {r : R} {s : Said A} {w : SlidingWindow} {l : List ℕ} {o : Outcome A} →
+    r ≡ f s w → _≡_ {A = Outcome A} (s, w, l) o → _≡_ {A = R × List ℕ} (r, l) (flatOutcome f o)
+flat-window {R = R} f {l = l} is says = ap {B = R × List ℕ} (λ x. (x, l)) is ∙ ap (flatOutcome f) says

@@ -1,3 +1,5 @@
 pub mod Answers
 pub mod Headers
 pub mod Packets
+pub mod Acked
+pub mod Sending

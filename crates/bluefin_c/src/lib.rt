@@ -1,5 +1,7 @@
 // The link for hosts in C and Rust: `rt staticlib bluefin_c` makes an archive of these calls on numbers and slices.
 // Each is a thin caller of the proved call; its answer, an enum there, goes out as a flat struct, which a host declares in the same order.
 // Proved: each answer and all lent memory are those of the definition that the proved call's promise cites, written flat by specs/Answers.antt.
+mod acked;
 mod headers;
 mod packets;
+mod sending;

@@ -1,0 +1,22 @@
+-- `bluefin_c::acked::bluefin_window_insert_packet_number` meets its contract. Assumes nothing.
+use Rattle.bluefin_c.specs.Acked.{insertedOf}
+use Rattle.bluefin_c.proofs.Flat.{flat-window}
+use borrow.Author.Needs.{needs}
+use Rattle.bluefin_c.proofs.acked.bluefin_window_insert_packet_number.Statement.{statement}
+use Rattle.bluefin_c.proofs.acked.bluefin_window_insert_packet_number.Tie as tie
+
+insert-packet-number-requires : tie.Need-insert-packet-number-requires
+insert-packet-number-requires c κs = search needs
+
+inserted-of-requires : tie.Need-inserted-of-requires
+inserted-of-requires c κs = search needs
+
+same-length : tie.Need-same-length
+same-length c = search needs
+
+returns : tie.Need-returns
+returns c = flat-window insertedOf (c .inserted-of .ensures) (c .before .before .before .insert-packet-number .ensures)
+
+pub bluefin-window-insert-packet-number-spec : {M : Type 1} → statement M
+bluefin-window-insert-packet-number-spec =
+    tie.close (tie.spec insert-packet-number-requires inserted-of-requires same-length returns)
