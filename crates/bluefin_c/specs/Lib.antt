@@ -3,3 +3,4 @@ pub mod Headers
 pub mod Packets
 pub mod Acked
 pub mod Sending
+pub mod Buffers

@@ -2,6 +2,7 @@
 // Each is a thin caller of the proved call; its answer, an enum there, goes out as a flat struct, which a host declares in the same order.
 // Proved: each answer and all lent memory are those of the definition that the proved call's promise cites, written flat by specs/Answers.antt.
 mod acked;
+mod buffer;
 mod headers;
 mod packets;
 mod sending;

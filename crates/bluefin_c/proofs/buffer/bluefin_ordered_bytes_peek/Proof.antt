@@ -1,0 +1,18 @@
+-- `bluefin_c::buffer::bluefin_ordered_bytes_peek` meets its contract. Assumes nothing.
+use mathlib.Core.Path.{ap, _∙_}
+use Rattle.bluefin_c.specs.Answers.{refusalIn}
+use borrow.Author.Needs.{needs}
+use Rattle.bluefin_c.proofs.buffer.bluefin_ordered_bytes_peek.Statement.{statement}
+use Rattle.bluefin_c.proofs.buffer.bluefin_ordered_bytes_peek.Tie as tie
+
+peek-requires : tie.Need-peek-requires
+peek-requires c κs = search needs
+
+peeked-of-requires : tie.Need-peeked-of-requires
+peeked-of-requires c κs = search needs
+
+returns : tie.Need-returns
+returns c = c .peeked-of .ensures ∙ ap refusalIn (c .before .peek .ensures)
+
+pub bluefin-ordered-bytes-peek-spec : {M : Type 1} → statement M
+bluefin-ordered-bytes-peek-spec = tie.close (tie.spec peek-requires peeked-of-requires returns)
