@@ -4,3 +4,4 @@ pub mod Packets
 pub mod Acked
 pub mod Sending
 pub mod Buffers
+pub mod RingAnswers

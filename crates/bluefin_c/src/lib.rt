@@ -5,4 +5,5 @@ mod acked;
 mod buffer;
 mod headers;
 mod packets;
+mod ring;
 mod sending;
