@@ -1,4 +1,5 @@
 -- The answers of the ring's calls as a host has them: the ring to go on with, refused or not, and what is said, with 0 for what is not.
+use Prim.Native.Nat.{ℕ}
 use mathlib.Core.Bool.{Bool, true, false}
 use mathlib.Core.List.{List}
 use mathlib.Core.Option.{Option, none, some}
@@ -6,10 +7,13 @@ use Rattle.refusal.specs.Said.{Said}
 use Rattle.ring_buffer.specs.Ring.{Outcome, blank}
 use Rattle.ring_buffer.specs.declared.AckData.{AckData}
 use Rattle.ring_buffer.specs.declared.RingBuffer.{RingBuffer}
+use Rattle.writer.specs.Acks as acks
+use Rattle.writer.specs.declared.acks.AcksPacked.{AcksPacked as Packed}
 use Rattle.bluefin_c.specs.Answers.{refusalIn, valueOr}
 use Rattle.bluefin_c.specs.declared.ring.Pushed.{Pushed}
 use Rattle.bluefin_c.specs.declared.ring.Popped.{Popped}
 use Rattle.bluefin_c.specs.declared.ring.Cleared.{Cleared}
+use Rattle.bluefin_c.specs.declared.ring.AcksPacked.{AcksPacked}
 
 -- what a call comes to, written flat by f: the answer, and the cells that are left
 abbrev pub flat : {A B : Type 0} → (RingBuffer → Said A → B) → Outcome A → B × List AckData
@@ -32,3 +36,10 @@ poppedOf g s = record { ring = g; ack = valueOr blank (λ a. a) s; refusal = ref
 
 abbrev pub clearedOf : RingBuffer → Said Unit → Cleared
 clearedOf g s = record { ring = g; refusal = refusalIn s }
+
+abbrev pub acksOf : RingBuffer → Said Packed → AcksPacked
+acksOf g s = record { ring = g; acks = valueOr 0 (λ p. p .acks) s; «to_send» = valueOr false (λ p. p .«to_send») s; refusal = refusalIn s }
+
+-- the answer, the cells and the output
+abbrev pub flatAcks : acks.Outcome → AcksPacked × List AckData × List ℕ
+flatAcks o = (acksOf (o .ring) (o .said), o .cells, o .out)

@@ -1,17 +1,21 @@
-// The queue of acks to send, a ring over lent records: utils/ring_buffer.rs for hosts.
+// The queue of acks to send, a ring over lent records, and its packing: utils/ring_buffer.rs and the acks of worker/writer.rs for hosts.
 // Each call hands the lent records on to the proved call, and writes its answer flat; that is done by value, in covered functions.
-// Proved: what each call answers and leaves is the flat form of the definition in crates/ring_buffer.
+// Proved: what each call answers and leaves is the flat form of the definition in crates/ring_buffer or crates/writer.
 use ring_buffer::AckData;
 use ring_buffer::RingBuffer;
+use writer::acks::AcksAnswer;
 ghost use mathlib.Core.Path.{_≡_};
 ghost use mathlib.Core.List.{List};
+ghost use Prim.Native.Nat.{ℕ};
 ghost use Rattle.ring_buffer.specs.Ring.{blank, fresh, pushBack, pushFront, popFront, front, clear};
 ghost use Rattle.ring_buffer.specs.Says.{pushedSays, ringPushed, poppedSays, ringPopped, peekedSays, clearedSays, ringCleared};
 ghost use Rattle.ring_buffer.specs.declared.AckData.{AckData};
+ghost use Rattle.writer.specs.Acks.{acksSays, ringAfter, consumesAcks};
 ghost use Rattle.bluefin_c.specs.declared.ring.Pushed.{Pushed};
 ghost use Rattle.bluefin_c.specs.declared.ring.Popped.{Popped};
 ghost use Rattle.bluefin_c.specs.declared.ring.Cleared.{Cleared};
-ghost use Rattle.bluefin_c.specs.RingAnswers.{flat, pushedOf, poppedOf, clearedOf};
+ghost use Rattle.bluefin_c.specs.declared.ring.AcksPacked.{AcksPacked};
+ghost use Rattle.bluefin_c.specs.RingAnswers.{flat, pushedOf, poppedOf, clearedOf, flatAcks, acksOf};
 
 #[repr(C)]
 pub struct Pushed {
@@ -32,6 +36,14 @@ pub struct Popped {
 #[repr(C)]
 pub struct Cleared {
     pub ring: RingBuffer,
+    pub refusal: u8,
+}
+
+#[repr(C)]
+pub struct AcksPacked {
+    pub ring: RingBuffer,
+    pub acks: usize,
+    pub to_send: bool,
     pub refusal: u8,
 }
 
@@ -122,6 +134,25 @@ fn cleared_of(ring: RingBuffer, answer: ring_buffer::Cleared) -> Cleared
     }
 }
 
+fn acks_packed_of(ring: RingBuffer, answer: AcksAnswer) -> AcksPacked
+    ensures { λ r. ⌜ r ≡ acksOf (ringAfter ring answer) (acksSays answer) ⌝ }
+{
+    match answer {
+        AcksAnswer::Packed(after, packed) => AcksPacked {
+            ring: after,
+            acks: packed.acks,
+            to_send: packed.to_send,
+            refusal: 0,
+        },
+        AcksAnswer::Refused(r) => AcksPacked {
+            ring,
+            acks: 0,
+            to_send: false,
+            refusal: refusal::number(r),
+        },
+    }
+}
+
 #[no_mangle]
 pub extern "C" fn bluefin_ring_new() -> RingBuffer
     ensures { λ r. ⌜ r ≡ fresh ⌝ }
@@ -175,4 +206,26 @@ pub extern "C" fn bluefin_ring_clear(ring: RingBuffer, records: &mut [AckData]) 
 {
     let answer = ring_buffer::clear(ring, records);
     cleared_of(ring, answer)
+}
+
+#[no_mangle]
+pub extern "C" fn bluefin_consume_acks_into(
+    ring: RingBuffer,
+    records: &mut [AckData],
+    used: usize,
+    src_conn_id: u32,
+    dst_conn_id: u32,
+    out: &mut [u8],
+) -> AcksPacked
+    ensures { λ r. ⌜ _≡_ {A = AcksPacked × List AckData × List ℕ} (r, now (records .exit), now (out .exit)) (flatAcks (consumesAcks ring (now (records .entry)) used «src_conn_id» «dst_conn_id» (now (out .entry)))) ⌝ }
+{
+    let answer = writer::acks::consume_acks_into(
+        ring,
+        records,
+        used,
+        src_conn_id,
+        dst_conn_id,
+        out,
+    );
+    acks_packed_of(ring, answer)
 }
