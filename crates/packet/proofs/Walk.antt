@@ -1,6 +1,6 @@
--- The walk over a datagram, one packet on: what the loops of `count` and `from_bytes_into` have still to answer and to write.
+-- The walk over a datagram, one packet on: what the loops of `count` and `index_packets` have still to answer and to write.
 -- Assumes nothing.
-use Prim.Native.Nat.{ℕ, zero, suc, _+_, _-_, _*_, _<_, _≤_, zero-le}
+use Prim.Native.Nat.{ℕ, zero, suc, _+_, _-_, _*_, _<_, _≤_, min, zero-le}
 use mathlib.Core.Path.{_≡_, refl, sym, ap, _∙_}
 use mathlib.Core.Bool.{Bool, true, false, cond}
 use mathlib.Core.List.{List}
@@ -17,7 +17,7 @@ use Rattle.refusal.specs.Said.{Said, answers, refuses, refusesAt, checks}
 use Rattle.refusal.specs.declared.Refusal.{Refusal}
 use Rattle.packet.specs.declared.Look.{Look}
 use Rattle.packet.specs.declared.Look.the-variants.{Packet, Fault, End}
-use Rattle.packet.specs.Datagram.{Walk, ends, onto, walkBy, walkAt, packetChecks, payloadLength, readingLimit, packetsOf, counted, answered, parsed, flat, parsesInto, parses, cellsIn}
+use Rattle.packet.specs.Datagram.{Walk, ends, onto, walkBy, walkAt, packetChecks, payloadLength, readingLimit, packetsOf, counted, answered, parsed, flat, cellsWritten, parsesInto, parses, cellsIn}
 use Rattle.packet.specs.Step.{Looked}
 use Rattle.packet.proofs.Step.{seen}
 
@@ -56,6 +56,10 @@ saidBy room n w = answered room (n + length (w .cells)) (w .ending)
 abbrev pub leftIn : ℕ → ℕ → List ℕ → Walk → List ℕ
 leftIn room n index w = sets index (2 * n) (flat (take (room - n) (w .cells)))
 
+-- .. and how many cells then stand written
+abbrev pub writtenBy : ℕ → ℕ → Walk → ℕ
+writtenBy room n w = min room (n + length (w .cells))
+
 module _ (room n : ℕ) where
   pub said-ending : {e : Said Unit} {w : Walk} → n ≤ room → w ≡ ends e → saidBy room n w ≡ counted n e
   said-ending {e} h q =
@@ -88,6 +92,15 @@ module _ (room n : ℕ) where
       let next : 2 * (n + 1) ≡ suc (suc (2 * n)) = omega arith in
       ap (leftIn room n index) q ∙ rw (z, next) (simp unary-clauses)
 
+  pub written-ending : {e : Said Unit} {w : Walk} → n ≤ room → w ≡ ends e → writtenBy room n w ≡ n
+  written-ending h q = ap (writtenBy room n) q ∙ omega arith
+
+  pub written-full : {c : ℕ × ℕ} {v w : Walk} → n ≤ room → room ≤ n → w ≡ onto c v → writtenBy room n w ≡ n
+  written-full {v = v} h k q = ap (writtenBy room n) q ∙ omega arith
+
+  pub written-onward : {c : ℕ × ℕ} {v w : Walk} → w ≡ onto c v → writtenBy room n w ≡ writtenBy room (n + 1) v
+  written-onward {v = v} q = ap (writtenBy room n) q ∙ omega arith
+
 -- where the loops begin
 module _ (s : List ℕ) where
   pub begin-long : readingLimit < length s → packetsOf s ≡ ends (refuses 11)
@@ -111,12 +124,18 @@ module _ (s : List ℕ) where
       let z : cellsIn index - 0 ≡ cellsIn index = omega arith in
       rw z (ap (λ (v : Walk). sets index 0 (flat (take (cellsIn index) (v .cells)))) (sym q))
 
+  pub written-begin : (index : List ℕ) {w : Walk} → packetsOf s ≡ w → writtenBy (cellsIn index) 0 w ≡ cellsWritten s index
+  written-begin index {w} q = rw (zero-add (length (w .cells))) (ap (λ (v : Walk). min (cellsIn index) (length (v .cells))) (sym q))
+
   -- a datagram refused before its first packet
   pub said-at-once : (room : ℕ) {e : Said Unit} → packetsOf s ≡ ends e → counted 0 e ≡ parsed s room
   said-at-once room {e} q = sym (said-ending room 0 {e = e} zero-le refl) ∙ said-begin room q
 
   pub left-at-once : (index : List ℕ) {e : Said Unit} → packetsOf s ≡ ends e → index ≡ parsesInto s index .1
   left-at-once index {e} q = sym (left-ending (cellsIn index) 0 {e = e} index refl) ∙ left-begin index q
+
+  pub written-at-once : (index : List ℕ) {e : Said Unit} → packetsOf s ≡ ends e → 0 ≡ cellsWritten s index
+  written-at-once index {e} q = sym (written-ending (cellsIn index) 0 {e = e} zero-le refl) ∙ written-begin index q
 
 -- what `from_bytes` leaves, once its packets are counted
 module _ (s index : List ℕ) where

@@ -98,6 +98,10 @@ cellsWritten s index = min (cellsIn index) (length (packetsOf s .cells))
 abbrev pub parsesInto : List ℕ → List ℕ → Said ℕ × List ℕ
 parsesInto s index = (parsed s (cellsIn index), sets index 0 (flat (take (cellsIn index) (packetsOf s .cells))))
 
+-- .. and with it how many cells are written
+abbrev pub indexes : List ℕ → List ℕ → Said ℕ × List ℕ × ℕ
+indexes s index = (parsesInto s index .0, parsesInto s index .1, cellsWritten s index)
+
 -- "`from_bytes` writes nothing on refusal"
 abbrev pub leftBy : Said ℕ → List ℕ → List ℕ → List ℕ
 leftBy (answers n) written index = written

@@ -11,7 +11,7 @@ ghost use lib.ListN.{length, drop};
 ghost use Rattle.refusal.specs.Said.{Said};
 ghost use Rattle.header.specs.Header.{headerReadSays};
 ghost use Rattle.packet.specs.Packet.{serialisesInto, deserialises, packetWrittenSays};
-ghost use Rattle.packet.specs.Datagram.{parsed, parses, parsesInto, parsedSays};
+ghost use Rattle.packet.specs.Datagram.{parsed, parses, parsesInto, indexes, parsedSays};
 ghost use Rattle.packet.specs.Step.{Looked};
 
 // RFC 768's longest length, less the 8 bytes of its header.
@@ -140,15 +140,27 @@ fn count(datagram: &[u8], room: usize) -> Parsed
     }
 }
 
-// core/packet.rs, `BluefinPacket::from_bytes_into`: one pass, so that what was met before a refusal stands in the index.
-pub fn from_bytes_into(datagram: &[u8], index: &mut [u32]) -> Parsed
-    ensures { λ r. ⌜ _≡_ {A = Said ℕ × List ℕ} (parsedSays r, now (index .exit)) (parsesInto (now (datagram .entry)) (now (index .entry))) ⌝ }
+// What `from_bytes_into` answers, and how many packets stand in the index, refused or not.
+pub struct Indexed {
+    pub answer: Parsed,
+    pub cells: usize,
+}
+
+// One pass, so that what was met before a refusal stands in the index.
+pub fn index_packets(datagram: &[u8], index: &mut [u32]) -> Indexed
+    ensures { λ r. ⌜ _≡_ {A = Said ℕ × List ℕ × ℕ} (parsedSays (r .answer), now (index .exit), r .cells) (indexes (now (datagram .entry)) (now (index .entry))) ⌝ }
 {
     if datagram.len() > READING_LIMIT {
-        return Parsed::Refused(Refusal::OutOfRange);
+        return Indexed {
+            answer: Parsed::Refused(Refusal::OutOfRange),
+            cells: 0,
+        };
     }
     if datagram.len() < 20 {
-        return Parsed::RefusedAt(Refusal::Short, 0);
+        return Indexed {
+            answer: Parsed::RefusedAt(Refusal::Short, 0),
+            cells: 0,
+        };
     }
     let room = index.len() / 2;
     let mut at = 0;
@@ -157,14 +169,23 @@ pub fn from_bytes_into(datagram: &[u8], index: &mut [u32]) -> Parsed
         let found = look_at(datagram, at);
         match found {
             Look::End => {
-                return Parsed::Packets(n);
+                return Indexed {
+                    answer: Parsed::Packets(n),
+                    cells: n,
+                };
             }
             Look::Fault(r) => {
-                return Parsed::RefusedAt(r, at);
+                return Indexed {
+                    answer: Parsed::RefusedAt(r, at),
+                    cells: n,
+                };
             }
             Look::Packet(payload) => {
                 if n >= room {
-                    return Parsed::Refused(Refusal::BufferShort);
+                    return Indexed {
+                        answer: Parsed::Refused(Refusal::BufferShort),
+                        cells: n,
+                    };
                 }
                 let cell = 2 * n;
                 index[cell] = at as u32;
@@ -174,6 +195,14 @@ pub fn from_bytes_into(datagram: &[u8], index: &mut [u32]) -> Parsed
             }
         }
     }
+}
+
+// core/packet.rs, `BluefinPacket::from_bytes_into`.
+pub fn from_bytes_into(datagram: &[u8], index: &mut [u32]) -> Parsed
+    ensures { λ r. ⌜ _≡_ {A = Said ℕ × List ℕ} (parsedSays r, now (index .exit)) (parsesInto (now (datagram .entry)) (now (index .entry))) ⌝ }
+{
+    let indexed = index_packets(datagram, index);
+    indexed.answer
 }
 
 // core/packet.rs, `BluefinPacket::from_bytes`: a pass that only counts, so that a refusal leaves the index as it was.
