@@ -8,7 +8,7 @@ use mathlib.Core.List.{List, [], _∷_, _++_, map}
 use native.Mathlib.Omega.{arith}
 use native.Mathlib.Decide.{decLe}
 use lib.ListN.{length, getD, take, drop, length-take}
-use lib.Seq.{sets-eq, length-sets, take-all}
+use lib.Seq.{sets-eq, length-sets, getD-take, take-all}
 use lib.Dec.{ltb}
 use borrow.Author.Tests.{ltb-false, le-ltb}
 use Rattle.refusal.specs.Said.{Said, answers, refuses, refusesAt}
@@ -76,6 +76,18 @@ module _ (s : List ℕ) where
         let cs = take (cellsIn index) (packetsOf s .cells) in
         rw (written, sym (length-take (cellsIn index) (packetsOf s .cells))) (listed-flat cs _)
 
+    -- they are there, and each lies within the datagram
+    pub written-there : 2 * cellsWritten s index ≤ length (parsesInto s index .1)
+    written-there = rw length-sets (omega arith)
+
+    pub written-within : (i : ℕ) → i < cellsWritten s index → Within s (getD (parsesInto s index .1) (2 * i) 0, getD (parsesInto s index .1) (2 * i + 1) 0)
+    written-within i h =
+        let cs = take (cellsIn index) (packetsOf s .cells) in
+        let cell = ap (λ (x : List ℕ). (getD x (2 * i) 0, getD x (2 * i + 1) 0)) written
+        ∙ flat-at cs _ i (rw length-take h)
+        ∙ getD-take (cellsIn index) (packetsOf s .cells) i (0, 0) (omega arith) in
+        subst (Within s) (sym cell) (every-at (λ k. Within s) (0, 0) (packetsOf s .cells) (within s) i (omega arith))
+
 -- where parsing answers a count, it is the count of all packets, each has its cell, and the walk came to the end
 pub record Answered (s : List ℕ) (room n : ℕ) : Type 0 where
   pub all : n ≡ length (packetsOf s .cells)
@@ -102,23 +114,17 @@ module _ (s index : List ℕ) {n : ℕ} (e : parsed s (cellsIn index) ≡ answer
       let a = answered-all s (cellsIn index) n e in
       take-all (cellsIn index) (packetsOf s .cells) (omega (arith, a .all, a .fits))
 
+  all-written : cellsWritten s index ≡ n
+  all-written = let a = answered-all s (cellsIn index) n e in omega (arith, a .all, a .fits)
+
   pub listed-all : listed s (parsesInto s index .1) n ≡ map (packetAt s) (packetsOf s .cells)
-  listed-all =
-      let a = answered-all s (cellsIn index) n e in
-      let count : cellsWritten s index ≡ n = omega (arith, a .all, a .fits) in
-      rw (sym count) (listed-into s index ∙ rw all-taken)
+  listed-all = rw (sym all-written) (listed-into s index ∙ rw all-taken)
 
   pub listed-parsed : listed s (parses s index .1) n ≡ map (packetAt s) (packetsOf s .cells)
   listed-parsed = rw e listed-all
 
   pub cells-there : 2 * n ≤ length (parses s index .1)
-  cells-there = rw (e, length-sets) (omega (arith, answered-all s (cellsIn index) n e .fits))
+  cells-there = rw (e, sym all-written) (written-there s index)
 
   pub cell-within : (i : ℕ) → i < n → Within s (getD (parses s index .1) (2 * i) 0, getD (parses s index .1) (2 * i + 1) 0)
-  cell-within i h =
-      let cs = packetsOf s .cells in
-      let all : i < length cs = omega (arith, answered-all s (cellsIn index) n e .all) in
-      let left : parses s index .1 ≡ flat cs ++ drop (0 + length (flat cs)) index =
-      rw e (written s index ∙ ap (λ (x : List (ℕ × ℕ)). flat x ++ drop (0 + length (flat x)) index) all-taken) in
-      let cell = ap (λ (x : List ℕ). (getD x (2 * i) 0, getD x (2 * i + 1) 0)) left ∙ flat-at cs _ i all in
-      subst (Within s) (sym cell) (every-at (λ k. Within s) (0, 0) cs (within s) i all)
+  cell-within i h = rw e (written-within s index i (rw all-written h))
