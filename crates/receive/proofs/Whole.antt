@@ -1,0 +1,51 @@
+-- Laws of `takesDatagram`: what the checks leave, and that an index written by `index_packets` can be walked.
+-- Assumes nothing.
+use Prim.Native.Nat.{ℕ, _<_, _≤_}
+use mathlib.Core.Path.{_≡_, ap, _∙_}
+use mathlib.Core.Bool.{Bool, true, false}
+use mathlib.Core.List.{List}
+use native.Mathlib.Omega.{arith}
+use lib.ListN.{length}
+use borrow.Author.Tests.{lt-ltb, le-ltb}
+use Rattle.refusal.specs.Said.{Said, refuses}
+use Rattle.packet.specs.Packet.{Packet}
+use Rattle.packet.specs.Datagram.{cellsIn, cellsWritten, parsesInto, indexes, listed}
+use Rattle.packet.proofs.Index.{written-there, written-within}
+use Rattle.receive.specs.Datagram.{Progress, Reception, takesAll, takesDatagram}
+use Rattle.receive.specs.Listed.{Listed}
+
+module _ (s index : List ℕ) {after : List ℕ} {said : Said ℕ} {n : ℕ} (e : _≡_ {A = Said ℕ × List ℕ × ℕ} (said, after, n) (indexes s index)) where
+  left-index : after ≡ parsesInto s index .1
+  left-index = ap (λ (x : Said ℕ × List ℕ × ℕ). x .1) e
+
+  many : n ≡ cellsWritten s index
+  many = ap (λ (x : Said ℕ × List ℕ × ℕ). x .2) e
+
+  pub lists : Listed s after n
+  lists = record {
+    cells = rw (left-index, many) (written-there s index);
+    within = λ i h. rw left-index (written-within s index i (omega (arith, many)));
+  }
+
+  pub few : n ≤ cellsIn index
+  few = omega (arith, many)
+
+  module _ {S : Type 0} (type : ℕ) (call : S → Packet → Said Unit × S) (state : S) (answers : List ℕ) where
+    pub whole-taken : {well : Bool} {x : S} {given : List ℕ} → well ≡ true → cellsIn index ≤ length answers
+        → record { state = x; answers = given } ≡ takesAll type call 0 (listed s after n) (record { state = state; answers = answers })
+        → record { said = said; index = after; answers = given; state = x } ≡ takesDatagram well type call state s index answers
+    whole-taken {x = x} {given = given} fits room q =
+        let told : said ≡ parsesInto s index .0 = ap (λ (y : Said ℕ × List ℕ × ℕ). y .0) e in
+        let all : record { state = x; answers = given } ≡ takesAll type call 0 (listed s (parsesInto s index .1) (cellsWritten s index)) (record { state = state; answers = answers }) =
+        q ∙ rw (left-index, many) in
+        let to : Progress S → Reception S = λ d. record { said = parsesInto s index .0; index = parsesInto s index .1; answers = d .answers; state = d .state } in
+        rw (fits, le-ltb (length answers) (cellsIn index) room, told, left-index) (ap to all)
+
+module _ {S : Type 0} (type : ℕ) (call : S → Packet → Said Unit × S) (state : S) (s index answers : List ℕ) where
+  pub whole-malformed : {well : Bool} → well ≡ false
+      → record { said = refuses 12; index = index; answers = answers; state = state } ≡ takesDatagram well type call state s index answers
+  whole-malformed fits = rw fits
+
+  pub whole-short : {well : Bool} → well ≡ true → length answers < cellsIn index
+      → record { said = refuses 10; index = index; answers = answers; state = state } ≡ takesDatagram well type call state s index answers
+  whole-short fits short = rw (fits, lt-ltb (length answers) (cellsIn index) short)

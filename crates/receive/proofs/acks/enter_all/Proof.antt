@@ -1,0 +1,102 @@
+-- `receive::acks::enter_all` meets its contract. The invariant: what is left to do, done on the present state, is the whole.
+-- Assumes nothing.
+use Prim.Native.Nat.{_+_, _-_, _*_, _≤_, zero-le}
+use mathlib.Core.Path.{_≡_, refl, sym, ap, _∙_}
+use mathlib.Core.Bool.{true}
+use native.Mathlib.Omega.{arith}
+use lib.ListN.{length}
+use denote.Ref.{now}
+use borrow.Author.Needs.{needs}
+use Rattle.packet.specs.Datagram.{listed}
+use Rattle.window.specs.Window.{wellFormed}
+use Rattle.receive.specs.Datagram.{enters, takesAll}
+use Rattle.receive.proofs.Takes.{rest, rest-begin, rest-on, rest-end}
+use Rattle.receive.proofs.acks.enter_all.Statement.{statement}
+use Rattle.receive.proofs.acks.enter_all.Tie as tie
+
+abbrev Inv-loop : tie.InvT-loop
+Inv-loop cells₀ datagram index n answers₀ i₀ entered₀ cells answers i entered =
+    (i ≤ n)
+    × (wellFormed entered cells ≡ true)
+    × (length answers ≡ length answers₀)
+    × (length cells ≡ length cells₀)
+    × (rest 4 enters datagram index n i (record { state = record { window = entered; cells = cells }; answers = answers })
+    ≡ takesAll 4 enters 0 (listed datagram index n) (record { state = record { window = entered₀; cells = cells₀ }; answers = answers₀ }))
+
+abbrev μ-loop : tie.MeasureT-loop
+μ-loop cells₀ datagram index n answers₀ i₀ entered₀ cells answers i entered = n - i
+
+loop-holds : tie.Need-loop-holds Inv-loop μ-loop
+loop-holds c =
+    let start = c .before .before .before .before in
+    (zero-le, start .pre .0, refl, refl, rest-begin 4 enters (now (start .args .datagram)) (now (start .args .index)) (start .args .n) _)
+
+mul-cell : tie.Need-mul-cell Inv-loop μ-loop
+mul-cell c = search needs
+
+mul-at : tie.Need-mul-at Inv-loop μ-loop
+mul-at c = search needs
+
+shared-slice-read-at : tie.Need-shared-slice-read-at Inv-loop μ-loop
+shared-slice-read-at c = search needs
+
+cast-at : tie.Need-cast-at Inv-loop μ-loop
+cast-at c = omega (arith, c .shared-slice-known3 .given (2 * c .before .before .loop .i))
+
+enter-listed-requires : tie.Need-enter-listed-requires Inv-loop μ-loop
+enter-listed-requires c κs =
+    let turn = c .before .before .before in
+    let start = turn .before .before .before .before .before .before in
+    let within = start .pre .1 .within (turn .before .loop .i) (turn .loop-test .taken) in
+    (turn .before .loop .inv .1, omega (arith, within), omega (arith, turn .loop-test .taken, start .pre .2))
+
+add-i : tie.Need-add-i Inv-loop μ-loop
+add-i c = search needs
+
+loop-less : tie.Need-loop-less Inv-loop μ-loop
+loop-less c = search needs
+
+loop-again : tie.Need-loop-again Inv-loop μ-loop
+loop-again c =
+    let made = c .before .before .before .before in
+    let turn = made .before .before .before .before in
+    let start = turn .before .before .before .before .before .before in
+    let k = turn .before .loop in (
+      omega (arith, turn .loop-test .taken),
+      made .enter-listed .ensures .1,
+      search needs,
+      search needs,
+      ap (rest 4 enters (now (start .args .datagram)) (now (start .args .index)) (start .args .n) (k .i + 1)) (made .enter-listed .ensures .0)
+          ∙ sym (rest-on 4 enters (now (start .args .datagram)) (now (start .args .index)) (start .args .n) (k .i) _ (turn .loop-test .taken) (start .pre .1 .cells))
+          ∙ k .inv .4,
+    )
+
+same-length : tie.Need-same-length Inv-loop μ-loop
+same-length c = search needs
+
+same-length-2 : tie.Need-same-length-2 Inv-loop μ-loop
+same-length-2 c = search needs
+
+returns : tie.Need-returns Inv-loop μ-loop
+returns c =
+    let start = c .before .before .before .before .before .before in
+    sym (rest-end 4 enters (now (start .args .datagram)) (now (start .args .index)) (start .args .n) (c .before .loop .i) _ (omega (arith, c .loop-test .left))) ∙ c .before .loop .inv .4
+
+pub enter-all-spec : {M : Type 1} → statement M
+enter-all-spec =
+    tie.close
+    (tie.spec
+    Inv-loop
+    μ-loop
+    loop-holds
+    mul-cell
+    mul-at
+    shared-slice-read-at
+    cast-at
+    enter-listed-requires
+    add-i
+    loop-less
+    loop-again
+    same-length
+    same-length-2
+    returns)

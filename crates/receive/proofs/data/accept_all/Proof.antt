@@ -1,0 +1,129 @@
+-- `receive::data::accept_all` meets its contract. The invariant: what is left to do, done on the present state, is the whole.
+-- Assumes nothing.
+use Prim.Native.Nat.{_+_, _-_, _*_, _≤_, zero-le}
+use mathlib.Core.Path.{_≡_, refl, sym, ap, _∙_}
+use mathlib.Core.Bool.{true}
+use native.Mathlib.Omega.{arith}
+use lib.ListN.{length}
+use denote.Ref.{now}
+use borrow.Author.Needs.{needs}
+use Rattle.packet.specs.Datagram.{listed}
+use Rattle.ordered_bytes.specs.Buffer.{bufferOf, wellFormed}
+use Rattle.receive.specs.Datagram.{accepts, takesAll}
+use Rattle.receive.proofs.Takes.{rest, rest-begin, rest-on, rest-end}
+use Rattle.receive.proofs.data.accept_all.Statement.{statement}
+use Rattle.receive.proofs.data.accept_all.Tie as tie
+
+abbrev Inv-loop : tie.InvT-loop
+Inv-loop o datagram index n answers₀ marks₀ lengths₀ store₀ i₀ answers marks lengths store i =
+    (i ≤ n)
+    × (wellFormed (bufferOf o marks lengths store) ≡ true)
+    × (length answers ≡ length answers₀)
+    × (length marks ≡ length marks₀)
+    × (length lengths ≡ length lengths₀)
+    × (length store ≡ length store₀)
+    × (rest 3 accepts datagram index n i (record { state = bufferOf o marks lengths store; answers = answers })
+    ≡ takesAll 3 accepts 0 (listed datagram index n) (record { state = bufferOf o marks₀ lengths₀ store₀; answers = answers₀ }))
+
+abbrev μ-loop : tie.MeasureT-loop
+μ-loop o datagram index n answers₀ marks₀ lengths₀ store₀ i₀ answers marks lengths store i = n - i
+
+loop-holds : tie.Need-loop-holds Inv-loop μ-loop
+loop-holds c =
+    let start = c .before .before .before .before .before .before in
+    (zero-le, start .pre .0, refl, refl, refl, refl, rest-begin 3 accepts (now (start .args .datagram)) (now (start .args .index)) (start .args .n) _)
+
+mul-cell : tie.Need-mul-cell Inv-loop μ-loop
+mul-cell c = search needs
+
+mul-at : tie.Need-mul-at Inv-loop μ-loop
+mul-at c = search needs
+
+shared-slice-read-at : tie.Need-shared-slice-read-at Inv-loop μ-loop
+shared-slice-read-at c = search needs
+
+cast-at : tie.Need-cast-at Inv-loop μ-loop
+cast-at c = omega (arith, c .shared-slice-known3 .given (2 * c .before .before .loop .i))
+
+add-len : tie.Need-add-len Inv-loop μ-loop
+add-len c = search needs
+
+mul-len : tie.Need-mul-len Inv-loop μ-loop
+mul-len c = search needs
+
+shared-slice-read-len : tie.Need-shared-slice-read-len Inv-loop μ-loop
+shared-slice-read-len c = search needs
+
+cast-len : tie.Need-cast-len Inv-loop μ-loop
+cast-len c = omega (arith, c .shared-slice-known4 .given (2 * c .before .before .before .loop .i + 1))
+
+accept-listed-requires : tie.Need-accept-listed-requires Inv-loop μ-loop
+accept-listed-requires c κs =
+    let turn = c .before .before .before .before .before .before in
+    let start = turn .before .before .before .before .before .before .before .before in
+    (turn .before .loop .inv .1, start .pre .1 .within (turn .before .loop .i) (turn .loop-test .taken), omega (arith, turn .loop-test .taken, start .pre .2))
+
+add-i : tie.Need-add-i Inv-loop μ-loop
+add-i c = search needs
+
+loop-less : tie.Need-loop-less Inv-loop μ-loop
+loop-less c = search needs
+
+loop-again : tie.Need-loop-again Inv-loop μ-loop
+loop-again c =
+    let made = c .before .before .before .before .before .before .before .before in
+    let turn = made .before .before .before .before .before .before .before in
+    let start = turn .before .before .before .before .before .before .before .before in
+    let k = turn .before .loop in (
+      omega (arith, turn .loop-test .taken),
+      made .accept-listed .ensures .1,
+      search needs,
+      search needs,
+      search needs,
+      search needs,
+      ap (rest 3 accepts (now (start .args .datagram)) (now (start .args .index)) (start .args .n) (k .i + 1)) (made .accept-listed .ensures .0)
+          ∙ sym (rest-on 3 accepts (now (start .args .datagram)) (now (start .args .index)) (start .args .n) (k .i) _ (turn .loop-test .taken) (start .pre .1 .cells))
+          ∙ k .inv .6,
+    )
+
+same-length : tie.Need-same-length Inv-loop μ-loop
+same-length c = search needs
+
+same-length-2 : tie.Need-same-length-2 Inv-loop μ-loop
+same-length-2 c = search needs
+
+same-length-3 : tie.Need-same-length-3 Inv-loop μ-loop
+same-length-3 c = search needs
+
+same-length-4 : tie.Need-same-length-4 Inv-loop μ-loop
+same-length-4 c = search needs
+
+returns : tie.Need-returns Inv-loop μ-loop
+returns c =
+    let start = c .before .before .before .before .before .before .before .before in
+    sym (rest-end 3 accepts (now (start .args .datagram)) (now (start .args .index)) (start .args .n) (c .before .loop .i) _ (omega (arith, c .loop-test .left))) ∙ c .before .loop .inv .6
+
+pub accept-all-spec : {M : Type 1} → statement M
+accept-all-spec =
+    tie.close
+    (tie.spec
+    Inv-loop
+    μ-loop
+    loop-holds
+    mul-cell
+    mul-at
+    shared-slice-read-at
+    cast-at
+    add-len
+    mul-len
+    shared-slice-read-len
+    cast-len
+    accept-listed-requires
+    add-i
+    loop-less
+    loop-again
+    same-length
+    same-length-2
+    same-length-3
+    same-length-4
+    returns)

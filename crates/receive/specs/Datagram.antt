@@ -1,0 +1,85 @@
+-- One call for a whole datagram: `from_bytes_into`, and then one call for each packet of a type that it listed, in order.
+-- The steps are the definitions that those calls' own contracts cite: `parsesInto`, `accepting`, `insertRange`.
+use Prim.Native.Nat.{ℕ, suc}
+use mathlib.Core.Bool.{Bool, not, cond}
+use mathlib.Core.List.{List, [], _∷_}
+use lib.ListN.{length, set}
+use lib.Dec.{ltb, eqb}
+use Rattle.refusal.specs.Said.{Said, refuses, refusesAt, checks}
+use Rattle.refusal.specs.Said as says
+use Rattle.header.specs.Types.{typeNumber}
+use Rattle.packet.specs.Packet.{Packet}
+use Rattle.packet.specs.Datagram.{cellsIn, cellsWritten, parsesInto, listed}
+use Rattle.ordered_bytes.specs.Buffer.{Buffer}
+use Rattle.ordered_bytes.specs.Buffer as buffer
+use Rattle.ordered_bytes.specs.Calls.{accepting}
+use Rattle.window.specs.Window.{insertRange}
+use Rattle.window.specs.Window as window
+use Rattle.window.specs.declared.SlidingWindow.{SlidingWindow}
+
+-- ---- the call for one packet
+
+-- `buffer_in_packet`: number and payload are the packet's
+abbrev pub accepts : Buffer → Packet → Said Unit × Buffer
+accepts b p = let a = accepting b (p .header .«packet_number») (p .payload) in (a .said, a .buffer)
+
+-- the window and its cells
+pub record Acks : Type 0 where
+  pub window : SlidingWindow
+  pub cells : List ℕ
+
+-- `insert_range`: base and count are the packet's number and field
+abbrev pub enters : Acks → Packet → Said Unit × Acks
+enters a p =
+    let o = insertRange (a .window) (a .cells) (p .header .«packet_number») (p .header .«type_specific_payload») in
+    (o .0, record { window = o .1; cells = o .2 })
+
+-- ---- the call for each listed packet of a type
+
+-- what such calls change: their state, and the list of answers
+pub record Progress (S : Type 0) : Type 0 where
+  pub state : S
+  pub answers : List ℕ
+
+-- 0, or the refusal's number
+abbrev pub refusalIn : Said Unit → ℕ
+refusalIn (says.answers u) = 0
+refusalIn (refuses r) = r
+refusalIn (refusesAt r at) = r
+
+-- the i-th packet: where it is of the type, the call is made, and the i-th number of the answers becomes what it answered
+abbrev pub takes : {S : Type 0} → ℕ → (S → Packet → Said Unit × S) → ℕ → Packet → Progress S → Progress S
+takes type call i p d =
+    let made = call (d .state) p in
+    cond (eqb (typeNumber (p .header .«type_field»)) type) (record { state = made .1; answers = set (d .answers) i (refusalIn (made .0)) }) d
+
+-- packets i, i + 1 and so on, in order
+unfoldable pub takesAll : {S : Type 0} → ℕ → (S → Packet → Said Unit × S) → ℕ → List Packet → Progress S → Progress S
+takesAll type call i [] d = d
+takesAll type call i (p ∷ ps) d = takesAll type call (suc i) ps (takes type call i p d)
+
+-- ---- the whole
+
+pub record Reception (S : Type 0) : Type 0 where
+  pub said : Said ℕ
+  pub index : List ℕ
+  pub answers : List ℕ
+  pub state : S
+
+-- 12 where the state is not well formed; 10 where the answers have fewer places than the index has cells; then `from_bytes_into`'s own,
+-- at which "the packets before the refusal" are listed, and taken all the same
+abbrev pub takesDatagram : {S : Type 0} → Bool → ℕ → (S → Packet → Said Unit × S) → S → List ℕ → List ℕ → List ℕ → Reception S
+takesDatagram wellFormed type call state s index answers =
+    let parsed = parsesInto s index in
+    let taken = takesAll type call 0 (listed s (parsed .1) (cellsWritten s index)) (record { state = state; answers = answers }) in
+    checks ((not wellFormed, 12) ∷ (ltb (length answers) (cellsIn index), 10) ∷ [])
+    (λ n. record { said = refuses n; index = index; answers = answers; state = state })
+    (record { said = parsed .0; index = parsed .1; answers = taken .answers; state = taken .state })
+
+-- type 3: the data packets
+unfoldable pub receiving : Buffer → List ℕ → List ℕ → List ℕ → Reception Buffer
+receiving b = takesDatagram (buffer.wellFormed b) 3 accepts b
+
+-- type 4: the acks
+unfoldable pub receivingAcks : SlidingWindow → List ℕ → List ℕ → List ℕ → List ℕ → Reception Acks
+receivingAcks w cells = takesDatagram (window.wellFormed w cells) 4 enters (record { window = w; cells = cells })

@@ -1,0 +1,96 @@
+// The data packets of a datagram, accepted one after another. The caller has tested the buffer; each accept keeps it well formed.
+ghost use mathlib.Core.Path.{_≡_};
+ghost use mathlib.Core.Bool.{true};
+ghost use Prim.Native.Nat.{_+_, _<_, _≤_};
+ghost use lib.ListN.{length};
+ghost use Rattle.packet.specs.Datagram.{packetAt, listed};
+ghost use Rattle.ordered_bytes.specs.Buffer.{bufferOf, wellFormed};
+ghost use Rattle.ordered_bytes.specs.Calls.{acceptedSays};
+ghost use Rattle.receive.specs.Datagram.{accepts, refusalIn, takes, takesAll};
+ghost use Rattle.receive.specs.Listed.{Listed};
+use ordered_bytes::Accepted;
+use ordered_bytes::OrderedBytes;
+
+// The type of a data packet.
+const DATA: u8 = 3;
+
+// The first n packets of the index.
+pub fn accept_all(
+    o: OrderedBytes,
+    datagram: &[u8],
+    index: &[u32],
+    n: usize,
+    answers: &mut [u8],
+    marks: &mut [bool],
+    lengths: &mut [u32],
+    store: &mut [u8],
+)
+    requires { ⌜ (wellFormed (bufferOf o (now marks) (now lengths) (now store)) ≡ true) × Listed (now datagram) (now index) n × (n ≤ length (now answers)) ⌝ }
+    ensures { λ _. ⌜ record { state = bufferOf o (now (marks .exit)) (now (lengths .exit)) (now (store .exit)); answers = now (answers .exit) } ≡ takesAll 3 accepts 0 (listed (now (datagram .entry)) (now (index .entry)) n) (record { state = bufferOf o (now (marks .entry)) (now (lengths .entry)) (now (store .entry)); answers = now (answers .entry) }) ⌝ }
+{
+    let mut i = 0;
+    while i < n {
+        let cell = 2 * i;
+        let at = index[cell] as usize;
+        let len = index[cell + 1] as usize;
+        accept_listed(o, datagram, at, len, i, answers, marks, lengths, store);
+        i += 1;
+    }
+}
+
+// The i-th packet, if it is a data packet.
+fn accept_listed(
+    o: OrderedBytes,
+    datagram: &[u8],
+    at: usize,
+    len: usize,
+    i: usize,
+    answers: &mut [u8],
+    marks: &mut [bool],
+    lengths: &mut [u32],
+    store: &mut [u8],
+)
+    requires { ⌜ (wellFormed (bufferOf o (now marks) (now lengths) (now store)) ≡ true) × (at + 20 + len ≤ length (now datagram)) × (i < length (now answers)) ⌝ }
+    ensures { λ _. ⌜ (record { state = bufferOf o (now (marks .exit)) (now (lengths .exit)) (now (store .exit)); answers = now (answers .exit) } ≡ takes 3 accepts i (packetAt (now (datagram .entry)) (at, len)) (record { state = bufferOf o (now (marks .entry)) (now (lengths .entry)) (now (store .entry)); answers = now (answers .entry) })) × (wellFormed (bufferOf o (now (marks .exit)) (now (lengths .exit)) (now (store .exit))) ≡ true) ⌝ }
+{
+    if datagram[at] % 16 != DATA {
+        return;
+    }
+    answers[i] = accept(o, datagram, at, len, marks, lengths, store);
+}
+
+// The data packet at a cursor.
+fn accept(
+    o: OrderedBytes,
+    datagram: &[u8],
+    at: usize,
+    len: usize,
+    marks: &mut [bool],
+    lengths: &mut [u32],
+    store: &mut [u8],
+) -> u8
+    requires { ⌜ (wellFormed (bufferOf o (now marks) (now lengths) (now store)) ≡ true) × (at + 20 + len ≤ length (now datagram)) ⌝ }
+    ensures { λ r. ⌜ (r ≡ refusalIn (accepts (bufferOf o (now (marks .entry)) (now (lengths .entry)) (now (store .entry))) (packetAt (now (datagram .entry)) (at, len)) .0)) × (bufferOf o (now (marks .exit)) (now (lengths .exit)) (now (store .exit)) ≡ accepts (bufferOf o (now (marks .entry)) (now (lengths .entry)) (now (store .entry))) (packetAt (now (datagram .entry)) (at, len)) .1) × (wellFormed (bufferOf o (now (marks .exit)) (now (lengths .exit)) (now (store .exit))) ≡ true) ⌝ }
+{
+    let number = parts::get8(datagram, at + 12);
+    let begin = at + 20;
+    let end = begin + len;
+    let accepted = ordered_bytes::buffer_in_packet_unchecked(
+        o,
+        number,
+        &datagram[begin..end],
+        marks,
+        lengths,
+        store,
+    );
+    refusal_in(accepted)
+}
+
+fn refusal_in(accepted: Accepted) -> u8
+    ensures { λ r. ⌜ r ≡ refusalIn (acceptedSays accepted) ⌝ }
+{
+    match accepted {
+        Accepted::Stored => 0,
+        Accepted::Refused(r) => refusal::number(r),
+    }
+}

@@ -1,0 +1,83 @@
+// One call for a whole datagram: parse it, and accept its data packets, or enter its acks, with one test of refusal 12 for all of them.
+// Document 01's arrival by one call; it has no call of its own there, and says nothing that the calls one after another do not say.
+// Proved: answer, state and every lent list are the definition's in specs/Datagram.antt, on every input.
+ghost use mathlib.Core.Path.{_≡_};
+ghost use Rattle.packet.specs.Datagram.{parsedSays};
+ghost use Rattle.ordered_bytes.specs.Buffer.{bufferOf};
+ghost use Rattle.receive.specs.Datagram.{receiving, receivingAcks};
+use ordered_bytes::OrderedBytes;
+use packet::Parsed;
+use refusal::Refusal;
+use window::SlidingWindow;
+
+mod acks;
+mod data;
+
+// The window to go on with, and what `from_bytes_into` answers.
+pub struct AcksReceived {
+    pub window: SlidingWindow,
+    pub answer: Parsed,
+}
+
+// Each data packet listed is accepted as `buffer_in_packet` accepts it.
+pub fn receive(
+    o: OrderedBytes,
+    datagram: &[u8],
+    index: &mut [u32],
+    answers: &mut [u8],
+    marks: &mut [bool],
+    lengths: &mut [u32],
+    store: &mut [u8],
+) -> Parsed
+    ensures { λ r. ⌜ record { said = parsedSays r; index = now (index .exit); answers = now (answers .exit); state = bufferOf o (now (marks .exit)) (now (lengths .exit)) (now (store .exit)) } ≡ receiving (bufferOf o (now (marks .entry)) (now (lengths .entry)) (now (store .entry))) (now (datagram .entry)) (now (index .entry)) (now (answers .entry)) ⌝ }
+{
+    if !ordered_bytes::well_formed(o, marks, lengths, store) {
+        return Parsed::Refused(Refusal::Malformed);
+    }
+    if answers.len() < index.len() / 2 {
+        return Parsed::Refused(Refusal::BufferShort);
+    }
+    let indexed = packet::index_packets(datagram, index);
+    data::accept_all(
+        o,
+        datagram,
+        index,
+        indexed.cells,
+        answers,
+        marks,
+        lengths,
+        store,
+    );
+    indexed.answer
+}
+
+// Each ack listed is entered as `insert_range` enters it: its number is the base, its field the count.
+pub fn receive_acks(
+    w: SlidingWindow,
+    cells: &mut [u64],
+    datagram: &[u8],
+    index: &mut [u32],
+    answers: &mut [u8],
+) -> AcksReceived
+    ensures { λ r. ⌜ record { said = parsedSays (r .answer); index = now (index .exit); answers = now (answers .exit); state = record { window = r .window; cells = now (cells .exit) } } ≡ receivingAcks w (now (cells .entry)) (now (datagram .entry)) (now (index .entry)) (now (answers .entry)) ⌝ }
+{
+    if !window::well_formed(w, cells) {
+        return AcksReceived {
+            window: w,
+            answer: Parsed::Refused(Refusal::Malformed),
+        };
+    }
+    if answers.len() < index.len() / 2 {
+        return AcksReceived {
+            window: w,
+            answer: Parsed::Refused(Refusal::BufferShort),
+        };
+    }
+    let indexed = packet::index_packets(datagram, index);
+    let entered = acks::enter_all(w, cells, datagram, index, indexed.cells, answers);
+    let answer = indexed.answer;
+    AcksReceived {
+        window: entered,
+        answer: answer,
+    }
+}
