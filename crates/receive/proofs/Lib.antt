@@ -1,3 +1,4 @@
 pub mod Takes
 pub mod Steps
 pub mod Whole
+pub mod Twelve
