@@ -8,3 +8,4 @@ pub mod Window
 pub mod Covered
 pub mod Demand3
 pub mod Sample
+pub mod WholeDatagram
