@@ -5,3 +5,4 @@ pub mod Acked
 pub mod Sending
 pub mod Buffers
 pub mod RingAnswers
+pub mod Datagrams

@@ -3,6 +3,7 @@
 // Proved: each answer and all lent memory are those of the definition that the proved call's promise cites, written flat by specs/Answers.antt.
 mod acked;
 mod buffer;
+mod datagrams;
 mod headers;
 mod packets;
 mod ring;

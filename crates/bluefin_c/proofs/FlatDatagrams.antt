@@ -1,0 +1,24 @@
+-- Laws of the flat answers for whole datagrams. Assumes nothing.
+use mathlib.Core.Path.{_≡_, ap, _∙_}
+use Prim.Native.Nat.{ℕ}
+use mathlib.Core.List.{List}
+use Rattle.refusal.specs.Said.{Said}
+use Rattle.ordered_bytes.specs.Buffer.{Buffer}
+use Rattle.window.specs.declared.SlidingWindow.{SlidingWindow}
+use Rattle.receive.specs.Datagram.{Acks, Reception}
+use Rattle.bluefin_c.specs.declared.packets.Parsed.{Parsed}
+use Rattle.bluefin_c.specs.declared.datagrams.AcksReceived.{AcksReceived}
+use Rattle.bluefin_c.specs.Packets.{parsedOf}
+use Rattle.bluefin_c.specs.Datagrams.{acksReceivedOf, flatReception, flatAcksReception}
+
+pub flat-reception : {r : Parsed} {s : Said ℕ} {index answers : List ℕ} {b : Buffer} {d : Reception Buffer} →
+    r ≡ parsedOf s → record { said = s; index = index; answers = answers; state = b } ≡ d →
+    _≡_ {A = Parsed × List ℕ × List ℕ × Buffer} (r, index, answers, b) (flatReception d)
+flat-reception {index = index} {answers = answers} {b = b} is says =
+    ap {B = Parsed × List ℕ × List ℕ × Buffer} (λ x. (x, index, answers, b)) is ∙ ap flatReception says
+
+pub flat-acks-reception : {r : AcksReceived} {s : Said ℕ} {w : SlidingWindow} {cells index answers : List ℕ} {d : Reception Acks} →
+    r ≡ acksReceivedOf w s → record { said = s; index = index; answers = answers; state = record { window = w; cells = cells } } ≡ d →
+    _≡_ {A = AcksReceived × List ℕ × List ℕ × List ℕ} (r, cells, index, answers) (flatAcksReception d)
+flat-acks-reception {cells = cells} {index = index} {answers = answers} is says =
+    ap {B = AcksReceived × List ℕ × List ℕ × List ℕ} (λ x. (x, cells, index, answers)) is ∙ ap flatAcksReception says
