@@ -1,0 +1,330 @@
+/*
+ * The Bluefin link for C: what crates/bluefin_c exports, proved.
+ *
+ * Link target/staticlib/libbluefin_c.a, which `rt staticlib bluefin_c` writes.
+ *
+ * Memory. The library keeps none: every byte that it reads or writes is lent by the caller for the length of one call, and states are small
+ * structs that go in by value and come back by value. A pointer is followed by the number of its elements; it may be NULL where that number
+ * is 0. What one call is lent must not overlap, but for memory that is only read. A `bool` that is lent must hold 0 or 1.
+ * Two threads may call at once, on memory of their own.
+ *
+ * Answers. `refusal` is 0, or the number of the refusal; the answer's other numbers are then 0. A state in an answer is the one to go on with,
+ * refused or not. Where a call is refused, lent memory stays as it was, unless the call says otherwise.
+ * A cursor comes with 1 to 4: it is the byte of the datagram at which the walk stopped.
+ */
+#ifndef BLUEFIN_H
+#define BLUEFIN_H
+
+#include <stdbool.h>
+#include <stddef.h>
+#include <stdint.h>
+
+#ifdef __cplusplus
+extern "C" {
+#endif
+
+/* ---- refusals */
+
+enum {
+    BLUEFIN_SHORT = 1,           /* under 20 bytes, or a header of another length */
+    BLUEFIN_PAYLOAD_MISSING = 2, /* the payload runs past the datagram's end */
+    BLUEFIN_TAIL = 3,            /* 1 to 19 bytes after the last packet */
+    BLUEFIN_UNKNOWN_TYPE = 4,    /* a packet type above 6 */
+    BLUEFIN_BELOW = 5,           /* a number below the first one expected */
+    BLUEFIN_BEYOND = 6,          /* a number too far ahead */
+    BLUEFIN_ALREADY_HELD = 7,    /* a number that is held */
+    BLUEFIN_EMPTY = 8,           /* nothing to give */
+    BLUEFIN_EXHAUSTED = 9,       /* no packet number left */
+    BLUEFIN_BUFFER_SHORT = 10,   /* lent memory too small */
+    BLUEFIN_OUT_OF_RANGE = 11,   /* a field, a payload or a datagram too large */
+    BLUEFIN_MALFORMED = 12,      /* a state that no call leaves */
+    BLUEFIN_PACKETS_HELD = 13    /* the start is set while packets are held */
+};
+
+/* ---- the header, 20 bytes on the wire */
+
+enum {
+    BLUEFIN_CLIENT_HELLO = 0,
+    BLUEFIN_SERVER_HELLO = 1,
+    BLUEFIN_CLIENT_ACK = 2,
+    BLUEFIN_DATA = 3,
+    BLUEFIN_ACK = 4,
+    BLUEFIN_FIN = 5,
+    BLUEFIN_FIN_ACK = 6
+};
+
+typedef struct {
+    uint64_t packet_number;
+    uint32_t source_connection_id;
+    uint32_t destination_connection_id;
+    uint16_t type_specific_payload; /* a data packet's payload length, an ack's count */
+    uint8_t version;                /* 0 to 15 */
+    uint8_t type_field;             /* 0 to 6, as above */
+    uint8_t header_protection_mask; /* 0 to 127 */
+    bool header_encrypted;
+} bluefin_header;
+
+typedef struct {
+    size_t bytes; /* bytes written, from the output's start on */
+    uint8_t refusal;
+} bluefin_written;
+
+typedef struct {
+    bluefin_header header;
+    size_t cursor;
+    uint8_t refusal;
+} bluefin_header_read;
+
+/* Writes the header: 20 bytes. Refusals: 4, 11, 10. */
+bluefin_written bluefin_header_serialise_into(bluefin_header header, uint8_t *buf, size_t buf_len);
+
+/* Reads a header from exactly 20 bytes. Refusals: 1, 4. */
+bluefin_header_read bluefin_header_deserialise(const uint8_t *bytes, size_t bytes_len);
+
+/* ---- packets and datagrams */
+
+typedef struct {
+    size_t packets;
+    size_t cursor;
+    uint8_t refusal;
+} bluefin_parsed;
+
+/* Writes header and payload: 20 bytes and the payload's. The header's field is not held against the payload. Refusals: 4, 11, 10. */
+bluefin_written bluefin_packet_serialise_into(bluefin_header header, const uint8_t *payload, size_t payload_len, uint8_t *buf, size_t buf_len);
+
+/* Reads the header of a packet that stands alone; its payload is every byte from the 20th on. Refusals: 1, 4. */
+bluefin_header_read bluefin_packet_deserialise(const uint8_t *bytes, size_t bytes_len);
+
+/*
+ * Lists the packets of a datagram of up to 65,527 bytes: for each, two numbers of the index, its header's offset and its payload's length.
+ * index_len counts those numbers, twice as many as packets; 6,552 have room for every datagram. Numbers after those of the packets stay.
+ * Refusals: 11, 1, and for each packet 4, 2, 10, at the end 3. `from_bytes` then leaves the index as it was; `from_bytes_into` leaves the
+ * packets before the refusal listed.
+ */
+bluefin_parsed bluefin_from_bytes(const uint8_t *datagram, size_t datagram_len, uint32_t *index, size_t index_len);
+bluefin_parsed bluefin_from_bytes_into(const uint8_t *datagram, size_t datagram_len, uint32_t *index, size_t index_len);
+
+/* ---- the receive buffer */
+
+/*
+ * What is small of a receive buffer of N slots of W bytes. The rest is lent beside it at every call: N marks, N lengths and a store of
+ * (N + 1) x W bytes. N is 1 to 2,000 and W 1 to 65,535. Every call refuses with 12, before all else, where these do not fit each other.
+ */
+typedef struct {
+    size_t slot_width;
+    size_t front_slot;
+    uint64_t front_number;
+    size_t carry_len;
+} bluefin_ordered_bytes;
+
+typedef struct {
+    bluefin_ordered_bytes state;
+    uint8_t refusal;
+} bluefin_started;
+
+/* A read's answer: packets that left their slots, the front packet's number or 0, bytes given. */
+typedef struct {
+    bluefin_ordered_bytes state;
+    size_t num_packets_consumed;
+    uint64_t base_packet_number;
+    uint64_t bytes_consumed;
+    uint8_t refusal;
+} bluefin_consumed;
+
+typedef struct {
+    bluefin_ordered_bytes state;
+    size_t num_packets_consumed;
+    uint64_t base_packet_number;
+    uint64_t bytes_consumed;
+    size_t pieces;
+    uint8_t refusal;
+} bluefin_consumed_bytes;
+
+/* An empty buffer that starts at a number: clears marks and lengths; the store may hold anything. Refusal: 12, with the state all 0. */
+bluefin_started bluefin_ordered_bytes_new(size_t slot_width, uint64_t start_packet_number, bool *marks, size_t marks_len, uint32_t *lengths,
+                                          size_t lengths_len, const uint8_t *store, size_t store_len);
+
+/* Starts at another number. Refusals: 12, 13. */
+bluefin_started bluefin_ordered_bytes_set_start_packet_number(bluefin_ordered_bytes o, uint64_t start_packet_number, const bool *marks,
+                                                              size_t marks_len, const uint32_t *lengths, size_t lengths_len,
+                                                              const uint8_t *store, size_t store_len);
+
+/* Accepts a packet: answers 0, or a refusal: 12, 5, 6, 9, 7, 11. The state stays the same. */
+uint8_t bluefin_ordered_bytes_buffer_in_packet(bluefin_ordered_bytes o, uint64_t n, const uint8_t *payload, size_t payload_len, bool *marks,
+                                               size_t marks_len, uint32_t *lengths, size_t lengths_len, uint8_t *store, size_t store_len);
+
+/* Answers 0 where a read would give something, or a refusal: 12, 8. */
+uint8_t bluefin_ordered_bytes_peek(bluefin_ordered_bytes o, const bool *marks, size_t marks_len, const uint32_t *lengths, size_t lengths_len,
+                                   const uint8_t *store, size_t store_len);
+
+/* Reads up to `len` bytes to the start of buf. Refusals: 12, 10 (len above buf_len), 8, which may have taken empty packets. */
+bluefin_consumed bluefin_ordered_bytes_consume(bluefin_ordered_bytes o, size_t len, uint8_t *buf, size_t buf_len, bool *marks,
+                                               size_t marks_len, uint32_t *lengths, size_t lengths_len, uint8_t *store, size_t store_len);
+
+/*
+ * Reads whole pieces, the carry-over and up to `limit` pieces in all: their bytes end to end to the start of buf, their lengths to the start
+ * of list. Refusals: 12, 10 (buf or list too short for all of them), 8.
+ */
+bluefin_consumed_bytes bluefin_ordered_bytes_consume_bytes(bluefin_ordered_bytes o, size_t limit, uint8_t *buf, size_t buf_len, uint32_t *list,
+                                                           size_t list_len, bool *marks, size_t marks_len, uint32_t *lengths,
+                                                           size_t lengths_len, uint8_t *store, size_t store_len);
+
+/*
+ * A whole datagram: lists its packets as `bluefin_from_bytes_into` does, and accepts each data packet listed as
+ * `bluefin_ordered_bytes_buffer_in_packet` does, in order, with one test of 12 for all. The i-th number of `answers` is what accepting the
+ * i-th packet answered; numbers of other packets stay. Refusals: 12, 10 (fewer answers than the index has room for packets: nothing is
+ * written), then those of the listing, with the packets listed before them accepted all the same.
+ */
+bluefin_parsed bluefin_receive(bluefin_ordered_bytes o, const uint8_t *datagram, size_t datagram_len, uint32_t *index, size_t index_len,
+                               uint8_t *answers, size_t answers_len, bool *marks, size_t marks_len, uint32_t *lengths, size_t lengths_len,
+                               uint8_t *store, size_t store_len);
+
+/* ---- the window of acked numbers */
+
+/* What is small of a window: its numbers stand in the first `count` of the lent cells. Every call refuses with 12 first. */
+typedef struct {
+    uint64_t smallest_expected;
+    size_t count;
+} bluefin_window;
+
+typedef struct {
+    bluefin_window window;
+    uint8_t refusal;
+} bluefin_inserted;
+
+/* length is 0 where the smallest expected number is absent. */
+typedef struct {
+    bluefin_window window;
+    uint64_t last;
+    uint64_t length;
+    uint8_t refusal;
+} bluefin_run;
+
+typedef struct {
+    bluefin_window window;
+    size_t packets;
+    size_t cursor;
+    uint8_t refusal;
+} bluefin_acks_received;
+
+/* An empty window from a number on. */
+bluefin_window bluefin_window_new(uint64_t smallest_expected);
+
+/* Refusals: 12, 5, 6, 9, 7, 10. */
+bluefin_inserted bluefin_window_insert_packet_number(bluefin_window w, uint64_t *cells, size_t cells_len, uint64_t n);
+
+/* Refusals: 12, 5, 9, 6, 10, 7, which has stored the numbers before the first held one. A count of 0 is accepted unchecked. */
+bluefin_inserted bluefin_window_insert_range(bluefin_window w, uint64_t *cells, size_t cells_len, uint64_t base, uint16_t count);
+
+/* Drops the unbroken run from the smallest expected number on. Refusal: 12. */
+bluefin_run bluefin_window_consume(bluefin_window w, uint64_t *cells, size_t cells_len);
+
+/*
+ * A whole datagram: lists its packets as `bluefin_from_bytes_into` does, and enters each ack listed, base and count, as
+ * `bluefin_window_insert_range` does, in order, with one test of 12 for all. Answers and refusals as `bluefin_receive` has them.
+ */
+bluefin_acks_received bluefin_receive_acks(bluefin_window w, uint64_t *cells, size_t cells_len, const uint8_t *datagram, size_t datagram_len,
+                                           uint32_t *index, size_t index_len, uint8_t *answers, size_t answers_len);
+
+/* ---- the queue of acks to send: a ring over lent records */
+
+typedef struct {
+    uint64_t base_packet_num;
+    uint32_t num_packets_consumed;
+} bluefin_ack;
+
+/* What is small of a ring; its capacity is the number of lent records. Every call refuses with 12 first. */
+typedef struct {
+    size_t head;
+    size_t tail;
+    size_t len;
+} bluefin_ring;
+
+/* `given_back` is the record where the ring was full, else 0. */
+typedef struct {
+    bluefin_ring ring;
+    bluefin_ack given_back;
+    bool full;
+    uint8_t refusal;
+} bluefin_pushed;
+
+typedef struct {
+    bluefin_ring ring;
+    bluefin_ack ack;
+    uint8_t refusal;
+} bluefin_popped;
+
+typedef struct {
+    bluefin_ring ring;
+    uint8_t refusal;
+} bluefin_cleared;
+
+typedef struct {
+    bluefin_ring ring;
+    size_t acks;
+    bool to_send;
+    uint8_t refusal;
+} bluefin_acks_packed;
+
+/* An empty ring: head, tail and len 0. The records may hold anything. */
+bluefin_ring bluefin_ring_new(void);
+
+/* Refusal: 12. */
+bluefin_pushed bluefin_ring_push_back(bluefin_ring ring, bluefin_ack *records, size_t records_len, bluefin_ack record);
+bluefin_pushed bluefin_ring_push_front(bluefin_ring ring, bluefin_ack *records, size_t records_len, bluefin_ack record);
+
+/* Refusals: 12, 8. `front` leaves the record where it is. */
+bluefin_popped bluefin_ring_pop_front(bluefin_ring ring, bluefin_ack *records, size_t records_len);
+bluefin_popped bluefin_ring_front(bluefin_ring ring, const bluefin_ack *records, size_t records_len);
+
+/* Refusal: 12. */
+bluefin_cleared bluefin_ring_clear(bluefin_ring ring, bluefin_ack *records, size_t records_len);
+
+/*
+ * Pops as many acks as still fit 15,200 bytes, and writes their headers to `out` from `used` on. `to_send` says whether the queue held an
+ * ack and the datagram is not empty. Refusals: 12 (also where used is above out_len), 11 (a count above 65,535), 10.
+ */
+bluefin_acks_packed bluefin_consume_acks_into(bluefin_ring ring, bluefin_ack *records, size_t records_len, size_t used, uint32_t src_conn_id,
+                                              uint32_t dst_conn_id, uint8_t *out, size_t out_len);
+
+/* ---- packing data, and closing */
+
+typedef struct {
+    size_t bytes;             /* payload bytes taken from the queue's front */
+    size_t packets;           /* packets written, each of 20 bytes and its payload */
+    uint64_t next_packet_num; /* the number after the last packet's */
+    size_t entries_removed;   /* entries that leave the queue */
+    size_t bytes_cut;         /* bytes to cut from the first entry left */
+    uint8_t refusal;
+} bluefin_data_packed;
+
+typedef struct {
+    uint64_t number;
+    uint64_t next_packet_num;
+    uint8_t refusal;
+} bluefin_reserved;
+
+/*
+ * Packs up to 15,000 bytes of a queue, whose entries' bytes stand end to end and whose lengths stand in `lengths`, into packets of up to
+ * 1,500, from the start of `out`; 15,200 bytes have room for all of them. The queue is the caller's to shorten by what is answered.
+ * Refusals: 12, 9, 10.
+ */
+bluefin_data_packed bluefin_consume_data_into(const uint8_t *bytes, size_t bytes_len, const uint32_t *lengths, size_t lengths_len,
+                                              uint64_t next_packet_num, uint32_t src_conn_id, uint32_t dst_conn_id, uint8_t *out,
+                                              size_t out_len);
+
+/* The fields of all packets of a datagram, added up to where one would run past its end. */
+size_t bluefin_payload_bytes_in_datagram(const uint8_t *datagram, size_t datagram_len);
+
+/* A FIN's number, and the next one. Refusal: 9. */
+bluefin_reserved bluefin_reserve_close_packet_num(uint64_t next_packet_num);
+
+/* Writes a FIN or a FIN-ACK: 20 bytes. Refusal: 10. */
+bluefin_written bluefin_write_fin(uint32_t src_conn_id, uint32_t dst_conn_id, uint64_t packet_number, uint8_t *buf, size_t buf_len);
+bluefin_written bluefin_write_fin_ack(uint32_t src_conn_id, uint32_t dst_conn_id, uint64_t packet_number, uint8_t *buf, size_t buf_len);
+
+#ifdef __cplusplus
+}
+#endif
+
+#endif
