@@ -6,3 +6,5 @@ pub mod Sending
 pub mod Buffers
 pub mod RingAnswers
 pub mod Datagrams
+pub mod Closing
+pub mod Hosts

@@ -3,8 +3,10 @@
 // Proved: each answer and all lent memory are those of the definition that the proved call's promise cites, written flat by specs/Answers.antt.
 mod acked;
 mod buffer;
+mod closing;
 mod datagrams;
 mod headers;
+mod hello;
 mod packets;
 mod ring;
 mod sending;

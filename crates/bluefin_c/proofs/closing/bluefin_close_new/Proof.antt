@@ -1,0 +1,18 @@
+-- `bluefin_c::closing::bluefin_close_new` meets its contract. Assumes nothing.
+use mathlib.Core.Path.{ap, _∙_}
+use Rattle.bluefin_c.specs.Closing.{flatClose}
+use borrow.Author.Needs.{needs}
+use Rattle.bluefin_c.proofs.closing.bluefin_close_new.Statement.{statement}
+use Rattle.bluefin_c.proofs.closing.bluefin_close_new.Tie as tie
+
+new-requires : tie.Need-new-requires
+new-requires c κs = search needs
+
+flat-close-requires : tie.Need-flat-close-requires
+flat-close-requires c κs = search needs
+
+returns : tie.Need-returns
+returns c = c .flat-close .ensures ∙ ap flatClose (c .before .new .ensures)
+
+pub bluefin-close-new-spec : {M : Type 1} → statement M
+bluefin-close-new-spec = tie.close (tie.spec new-requires flat-close-requires returns)
