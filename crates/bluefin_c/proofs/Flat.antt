@@ -4,12 +4,12 @@ use Prim.Native.Nat.{ℕ, _<_}
 use mathlib.Core.List.{List}
 use borrow.Author.Tests.{lt-ltb}
 use Rattle.refusal.specs.Said.{Said}
-use Rattle.bluefin_c.specs.Answers.{firstBy}
+use Rattle.flat.specs.Answers.{firstBy}
 use Rattle.window.specs.Window.{Outcome}
 use Rattle.window.specs.declared.SlidingWindow.{SlidingWindow}
-use Rattle.bluefin_c.specs.Headers.{unlessUnknown}
-use Rattle.bluefin_c.specs.Acked.{flatOutcome}
-use Rattle.bluefin_c.specs.declared.headers.Header.{Header}
+use Rattle.flat.specs.Headers.{unlessUnknown}
+use Rattle.flat.specs.Acked.{flatOutcome}
+use Rattle.flat.specs.declared.headers.Header.{Header}
 
 -- an answer made flat, beside what is left
 pub flat-first : {A B L : Type 0} (f : A → B) {r : B} {a : A} {l : L} {d : A × L} → r ≡ f a → _≡_ {A = A × L} (a, l) d → _≡_ {A = B × L} (r, l) (firstBy f d)

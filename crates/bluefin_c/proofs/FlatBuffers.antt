@@ -7,11 +7,11 @@ use Rattle.refusal.specs.Said.{Said}
 use Rattle.ordered_bytes.specs.declared.OrderedBytes.{OrderedBytes}
 use Rattle.ordered_bytes.specs.Buffer.{Buffer, bufferOf}
 use Rattle.ordered_bytes.specs.Calls.{Creation, Acceptance, Consumption, PieceConsumption}
-use Rattle.bluefin_c.specs.declared.buffer.Started.{Started}
-use Rattle.bluefin_c.specs.declared.buffer.Consumed.{Consumed}
-use Rattle.bluefin_c.specs.declared.buffer.ConsumedBytes.{ConsumedBytes}
-use Rattle.bluefin_c.specs.Answers.{refusalIn}
-use Rattle.bluefin_c.specs.Buffers.{noBuffer, startedOf, consumedOf, consumedBytesOf, flatCreation, flatAcceptance, flatConsumption, flatPieces}
+use Rattle.flat.specs.declared.buffer.Started.{Started}
+use Rattle.flat.specs.declared.buffer.Consumed.{Consumed}
+use Rattle.flat.specs.declared.buffer.ConsumedBytes.{ConsumedBytes}
+use Rattle.flat.specs.Answers.{refusalIn}
+use Rattle.flat.specs.Buffers.{noBuffer, startedOf, consumedOf, consumedBytesOf, flatCreation, flatAcceptance, flatConsumption, flatPieces}
 
 pub flat-creation : {r : Started} {s : Said OrderedBytes} {m : List Bool} {l : List ℕ} {d : Creation} →
     r ≡ startedOf noBuffer s → record { said = s; marks = m; lengths = l } ≡ d →

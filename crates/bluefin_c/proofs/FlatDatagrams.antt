@@ -6,10 +6,10 @@ use Rattle.refusal.specs.Said.{Said}
 use Rattle.ordered_bytes.specs.Buffer.{Buffer}
 use Rattle.window.specs.declared.SlidingWindow.{SlidingWindow}
 use Rattle.receive.specs.Datagram.{Acks, Reception}
-use Rattle.bluefin_c.specs.declared.packets.Parsed.{Parsed}
-use Rattle.bluefin_c.specs.declared.datagrams.AcksReceived.{AcksReceived}
-use Rattle.bluefin_c.specs.Packets.{parsedOf}
-use Rattle.bluefin_c.specs.Datagrams.{acksReceivedOf, flatReception, flatAcksReception}
+use Rattle.flat.specs.declared.packets.Parsed.{Parsed}
+use Rattle.flat.specs.declared.datagrams.AcksReceived.{AcksReceived}
+use Rattle.flat.specs.Packets.{parsedOf}
+use Rattle.flat.specs.Datagrams.{acksReceivedOf, flatReception, flatAcksReception}
 
 pub flat-reception : {r : Parsed} {s : Said ℕ} {index answers : List ℕ} {b : Buffer} {d : Reception Buffer} →
     r ≡ parsedOf s → record { said = s; index = index; answers = answers; state = b } ≡ d →

@@ -46,7 +46,7 @@ use Rattle.ring_buffer.proofs.AckData as T
 use Rattle.ring_buffer.proofs.AckData.Laws as T′
 use Rattle.ring_buffer.proofs.RingBuffer as G
 use Rattle.ring_buffer.proofs.RingBuffer.Laws as G′
-use Rattle.bluefin_c.specs.RingAnswers.{flat}
+use Rattle.flat.specs.RingAnswers.{flat}
 use Rattle.bluefin_c.proofs.RingFlat.{flat-leaves}
 use Rattle.bluefin_c.proofs.Converted.{converted, converted-says, Converts, converted-of, to-convert, goes-convert}
 

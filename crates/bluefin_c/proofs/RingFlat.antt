@@ -8,8 +8,8 @@ use Rattle.ring_buffer.specs.declared.AckData.{AckData}
 use Rattle.ring_buffer.specs.declared.RingBuffer.{RingBuffer}
 use Rattle.writer.specs.Acks as acks
 use Rattle.writer.specs.declared.acks.AcksPacked.{AcksPacked as Packed}
-use Rattle.bluefin_c.specs.RingAnswers.{flat, acksOf, flatAcks}
-use Rattle.bluefin_c.specs.declared.ring.AcksPacked.{AcksPacked}
+use Rattle.flat.specs.RingAnswers.{flat, acksOf, flatAcks}
+use Rattle.flat.specs.declared.ring.AcksPacked.{AcksPacked}
 
 pub flat-leaves : {A B : Type 0} (f : RingBuffer → Said A → B) {r : B} {s : Said A} {g : RingBuffer} {zs : List AckData} {o : Outcome A} → r ≡ f g s → leaves s g zs ≡ o → _≡_ {A = B × List AckData} (r, zs) (flat f o)
 flat-leaves {B = B} f {zs = zs} is says = ap {B = B × List AckData} (λ x. (x, zs)) is ∙ ap (flat f) says

@@ -1,162 +1,18 @@
-// The close record: net/close_handler.rs for hosts. It goes by value, every part a number; a number of a FIN that is absent is 0.
+// The close record: net/close_handler.rs for hosts. It goes by value.
 // Proved: what each call answers is the flat form of the definition in crates/close_handler.
-use close_handler::CloseBuffer;
-use close_handler::CloseState;
-use close_handler::FinNumber;
+use flat::closing::CloseAfter;
+use flat::closing::CloseRecord;
+use flat::closing::FinAckTaken;
 use refusal::Refusal;
 ghost use mathlib.Core.Path.{_≡_};
-ghost use Rattle.close_handler.specs.Close.{numberIn, fresh, afterFin, afterFinAck, afterLocalFin, afterClosed};
-ghost use Rattle.bluefin_c.specs.Closing.{stateIn, finNumberIn, closeIn, stateNumber, stateFin, isSome, numberOr0, flatClose, closeAfter, finAckTaken};
-
-#[repr(C)]
-pub struct CloseRecord {
-    pub state_fin: u64,
-    pub pending_fin_ack_send: u64,
-    pub received_fin_ack_for: u64,
-    pub state: u8,
-    pub is_pending: bool,
-    pub is_received: bool,
-    pub peer_fin_observed: bool,
-}
-
-#[repr(C)]
-pub struct CloseAfter {
-    pub close: CloseRecord,
-    pub refusal: u8,
-}
-
-#[repr(C)]
-pub struct FinAckTaken {
-    pub close: CloseRecord,
-    pub number: u64,
-    pub was_pending: bool,
-    pub refusal: u8,
-}
-
-fn state_in(state: u8, n: u64) -> CloseState
-    ensures { λ r. ⌜ r ≡ stateIn state n ⌝ }
-{
-    match state {
-        0 => CloseState::Active,
-        1 => CloseState::PeerFinReceived(n),
-        2 => CloseState::LocalFinSent(n),
-        _ => CloseState::Closed,
-    }
-}
-
-fn fin_number_in(is_there: bool, n: u64) -> FinNumber
-    ensures { λ r. ⌜ r ≡ finNumberIn «is_there» n ⌝ }
-{
-    if is_there {
-        FinNumber::Number(n)
-    } else {
-        FinNumber::Nothing
-    }
-}
-
-// The record that a host's numbers mean. The caller has refused the state numbers above 3.
-fn close_in(c: CloseRecord) -> CloseBuffer
-    ensures { λ r. ⌜ r ≡ closeIn c ⌝ }
-{
-    CloseBuffer {
-        state: state_in(c.state, c.state_fin),
-        pending_fin_ack_send: fin_number_in(c.is_pending, c.pending_fin_ack_send),
-        received_fin_ack_for: fin_number_in(c.is_received, c.received_fin_ack_for),
-        peer_fin_observed: c.peer_fin_observed,
-    }
-}
-
-fn state_number(state: CloseState) -> u8
-    ensures { λ r. ⌜ r ≡ stateNumber state ⌝ }
-{
-    match state {
-        CloseState::Active => 0,
-        CloseState::PeerFinReceived(_) => 1,
-        CloseState::LocalFinSent(_) => 2,
-        CloseState::Closed => 3,
-    }
-}
-
-fn state_fin(state: CloseState) -> u64
-    ensures { λ r. ⌜ r ≡ stateFin state ⌝ }
-{
-    match state {
-        CloseState::Active => 0,
-        CloseState::PeerFinReceived(n) => n,
-        CloseState::LocalFinSent(n) => n,
-        CloseState::Closed => 0,
-    }
-}
-
-fn is_there(fin: FinNumber) -> bool
-    ensures { λ r. ⌜ r ≡ isSome (numberIn fin) ⌝ }
-{
-    match fin {
-        FinNumber::Nothing => false,
-        FinNumber::Number(_) => true,
-    }
-}
-
-fn number_or_0(fin: FinNumber) -> u64
-    ensures { λ r. ⌜ r ≡ numberOr0 (numberIn fin) ⌝ }
-{
-    match fin {
-        FinNumber::Nothing => 0,
-        FinNumber::Number(n) => n,
-    }
-}
-
-fn flat_close(c: CloseBuffer) -> CloseRecord
-    ensures { λ r. ⌜ r ≡ flatClose c ⌝ }
-{
-    let state = c.state;
-    let owed = c.pending_fin_ack_send;
-    let recorded = c.received_fin_ack_for;
-    CloseRecord {
-        state_fin: state_fin(state),
-        pending_fin_ack_send: number_or_0(owed),
-        received_fin_ack_for: number_or_0(recorded),
-        state: state_number(state),
-        is_pending: is_there(owed),
-        is_received: is_there(recorded),
-        peer_fin_observed: c.peer_fin_observed,
-    }
-}
-
-fn malformed(c: CloseRecord) -> CloseAfter
-    ensures { λ r. ⌜ r ≡ record { close = c; refusal = 12 } ⌝ }
-{
-    CloseAfter {
-        close: c,
-        refusal: refusal::number(Refusal::Malformed),
-    }
-}
-
-fn close_after(c: CloseBuffer) -> CloseAfter
-    ensures { λ r. ⌜ r ≡ record { close = flatClose c; refusal = 0 } ⌝ }
-{
-    CloseAfter {
-        close: flat_close(c),
-        refusal: 0,
-    }
-}
-
-fn fin_ack_taken(owed: FinNumber, c: CloseBuffer) -> FinAckTaken
-    ensures { λ r. ⌜ r ≡ record { close = flatClose c; number = numberOr0 (numberIn owed); «was_pending» = isSome (numberIn owed); refusal = 0 } ⌝ }
-{
-    FinAckTaken {
-        close: flat_close(c),
-        number: number_or_0(owed),
-        was_pending: is_there(owed),
-        refusal: 0,
-    }
-}
+ghost use Rattle.close_handler.specs.Close.{fresh, afterFin, afterFinAck, afterLocalFin, afterClosed};
+ghost use Rattle.flat.specs.Closing.{flatClose, closeAfter, finAckTaken};
 
 #[no_mangle]
 pub extern "C" fn bluefin_close_new(peer_fin_observed: bool) -> CloseRecord
     ensures { λ r. ⌜ r ≡ flatClose (fresh «peer_fin_observed») ⌝ }
 {
-    flat_close(close_handler::new(peer_fin_observed))
+    flat::closing::flat_close(close_handler::new(peer_fin_observed))
 }
 
 #[no_mangle]
@@ -164,9 +20,9 @@ pub extern "C" fn bluefin_close_buffer_in_fin(c: CloseRecord, n: u64) -> CloseAf
     ensures { λ r. ⌜ r ≡ closeAfter c (λ b. afterFin b n) ⌝ }
 {
     if c.state >= 4 {
-        return malformed(c);
+        return flat::closing::malformed(c);
     }
-    close_after(close_handler::after_fin(close_in(c), n))
+    flat::closing::close_after(close_handler::after_fin(flat::closing::close_in(c), n))
 }
 
 #[no_mangle]
@@ -174,9 +30,9 @@ pub extern "C" fn bluefin_close_buffer_in_fin_ack(c: CloseRecord, n: u64) -> Clo
     ensures { λ r. ⌜ r ≡ closeAfter c (λ b. afterFinAck b n) ⌝ }
 {
     if c.state >= 4 {
-        return malformed(c);
+        return flat::closing::malformed(c);
     }
-    close_after(close_handler::after_fin_ack(close_in(c), n))
+    flat::closing::close_after(close_handler::after_fin_ack(flat::closing::close_in(c), n))
 }
 
 #[no_mangle]
@@ -184,9 +40,9 @@ pub extern "C" fn bluefin_close_record_local_fin_sent(c: CloseRecord, n: u64) ->
     ensures { λ r. ⌜ r ≡ closeAfter c (λ b. afterLocalFin b n) ⌝ }
 {
     if c.state >= 4 {
-        return malformed(c);
+        return flat::closing::malformed(c);
     }
-    close_after(close_handler::after_local_fin(close_in(c), n))
+    flat::closing::close_after(close_handler::after_local_fin(flat::closing::close_in(c), n))
 }
 
 #[no_mangle]
@@ -194,9 +50,9 @@ pub extern "C" fn bluefin_close_mark_closed(c: CloseRecord) -> CloseAfter
     ensures { λ r. ⌜ r ≡ closeAfter c afterClosed ⌝ }
 {
     if c.state >= 4 {
-        return malformed(c);
+        return flat::closing::malformed(c);
     }
-    close_after(close_handler::after_closed(close_in(c)))
+    flat::closing::close_after(close_handler::after_closed(flat::closing::close_in(c)))
 }
 
 #[no_mangle]
@@ -211,7 +67,7 @@ pub extern "C" fn bluefin_close_take_pending_fin_ack_send(c: CloseRecord) -> Fin
             refusal: refusal::number(Refusal::Malformed),
         };
     }
-    let b = close_in(c);
+    let b = flat::closing::close_in(c);
     let owed = b.pending_fin_ack_send;
-    fin_ack_taken(owed, close_handler::after_take(b))
+    flat::closing::fin_ack_taken(owed, close_handler::after_take(b))
 }

@@ -1,40 +1,17 @@
 // Whole datagrams by one call: crates/receive for hosts.
 // Proved: what each call answers and leaves is the flat form of the definition in crates/receive.
-use crate::packets;
-use crate::packets::Parsed;
+use flat::datagrams::AcksReceived;
+use flat::packets::Parsed;
 use ordered_bytes::OrderedBytes;
 use window::SlidingWindow;
 ghost use mathlib.Core.Path.{_≡_};
 ghost use mathlib.Core.List.{List};
 ghost use Prim.Native.Nat.{ℕ};
-ghost use Rattle.packet.specs.Datagram.{parsedSays};
 ghost use Rattle.ordered_bytes.specs.Buffer.{Buffer, bufferOf};
-ghost use Rattle.receive.specs.Datagram.{Acks, receiving, receivingAcks};
-ghost use Rattle.bluefin_c.specs.declared.packets.Parsed.{Parsed};
-ghost use Rattle.bluefin_c.specs.declared.datagrams.AcksReceived.{AcksReceived};
-ghost use Rattle.bluefin_c.specs.Datagrams.{acksReceivedOf, flatReception, flatAcksReception};
-
-#[repr(C)]
-pub struct AcksReceived {
-    pub window: SlidingWindow,
-    pub packets: usize,
-    pub cursor: usize,
-    pub refusal: u8,
-}
-
-fn acks_received_of(received: receive::AcksReceived) -> AcksReceived
-    ensures { λ r. ⌜ r ≡ acksReceivedOf (received .window) (parsedSays (received .answer)) ⌝ }
-{
-    let window = received.window;
-    let answer = received.answer;
-    let parsed = packets::parsed_of(answer);
-    AcksReceived {
-        window: window,
-        packets: parsed.packets,
-        cursor: parsed.cursor,
-        refusal: parsed.refusal,
-    }
-}
+ghost use Rattle.receive.specs.Datagram.{receiving, receivingAcks};
+ghost use Rattle.flat.specs.declared.packets.Parsed.{Parsed};
+ghost use Rattle.flat.specs.declared.datagrams.AcksReceived.{AcksReceived};
+ghost use Rattle.flat.specs.Datagrams.{flatReception, flatAcksReception};
 
 #[no_mangle]
 pub extern "C" fn bluefin_receive(
@@ -48,7 +25,7 @@ pub extern "C" fn bluefin_receive(
 ) -> Parsed
     ensures { λ r. ⌜ _≡_ {A = Parsed × List ℕ × List ℕ × Buffer} (r, now (index .exit), now (answers .exit), bufferOf o (now (marks .exit)) (now (lengths .exit)) (now (store .exit))) (flatReception (receiving (bufferOf o (now (marks .entry)) (now (lengths .entry)) (now (store .entry))) (now (datagram .entry)) (now (index .entry)) (now (answers .entry)))) ⌝ }
 {
-    packets::parsed_of(receive::receive(o, datagram, index, answers, marks, lengths, store))
+    flat::packets::parsed_of(receive::receive(o, datagram, index, answers, marks, lengths, store))
 }
 
 #[no_mangle]
@@ -61,5 +38,5 @@ pub extern "C" fn bluefin_receive_acks(
 ) -> AcksReceived
     ensures { λ r. ⌜ _≡_ {A = AcksReceived × List ℕ × List ℕ × List ℕ} (r, now (cells .exit), now (index .exit), now (answers .exit)) (flatAcksReception (receivingAcks w (now (cells .entry)) (now (datagram .entry)) (now (index .entry)) (now (answers .entry)))) ⌝ }
 {
-    acks_received_of(receive::receive_acks(w, cells, datagram, index, answers))
+    flat::datagrams::acks_received_of(receive::receive_acks(w, cells, datagram, index, answers))
 }

@@ -1,154 +1,32 @@
-// The header: core/header.rs for hosts. A type goes as its number, and a number that no type has is refused on writing, before all else.
+// The header: core/header.rs for hosts. A type number that no packet has is refused on writing, before all else.
 // Proved: what each call answers and leaves is the flat form of the definition in crates/header.
+use flat::headers::Header;
+use flat::headers::HeaderRead;
+use flat::headers::Written;
 use header::BluefinHeader;
-use header::BluefinSecurityFields;
 use header::HeaderWritten;
-use header::PacketType;
 use refusal::Refusal;
 ghost use mathlib.Core.Path.{_≡_};
 ghost use mathlib.Core.List.{List};
 ghost use Prim.Native.Nat.{ℕ};
-ghost use Rattle.header.specs.Types.{typeOf};
-ghost use Rattle.header.specs.Header.{serialisesInto, deserialises, headerWrittenSays, headerReadSays};
-ghost use Rattle.bluefin_c.specs.declared.headers.Written.{Written};
-ghost use Rattle.bluefin_c.specs.Answers.{firstBy};
-ghost use Rattle.bluefin_c.specs.Headers.{headerIn, flatHeader, noHeader, unlessUnknown, writtenOf, headerReadOf};
-
-#[repr(C)]
-pub struct Header {
-    pub packet_number: u64,
-    pub source_connection_id: u32,
-    pub destination_connection_id: u32,
-    pub type_specific_payload: u16,
-    pub version: u8,
-    pub type_field: u8,
-    pub header_protection_mask: u8,
-    pub header_encrypted: bool,
-}
-
-#[repr(C)]
-pub struct Written {
-    pub bytes: usize,
-    pub refusal: u8,
-}
-
-#[repr(C)]
-pub struct HeaderRead {
-    pub header: Header,
-    pub cursor: usize,
-    pub refusal: u8,
-}
-
-fn type_of(n: u8) -> PacketType
-    ensures { λ r. ⌜ r ≡ typeOf n ⌝ }
-{
-    match n {
-        0 => PacketType::UnencryptedClientHello,
-        1 => PacketType::UnencryptedServerHello,
-        2 => PacketType::ClientAck,
-        3 => PacketType::UnencryptedData,
-        4 => PacketType::Ack,
-        5 => PacketType::Fin,
-        _ => PacketType::FinAck,
-    }
-}
-
-// The header that a host's numbers mean. The caller has refused the type numbers above 6.
-pub fn header_in(header: Header) -> BluefinHeader
-    ensures { λ r. ⌜ r ≡ headerIn header ⌝ }
-{
-    let security = BluefinSecurityFields {
-        header_encrypted: header.header_encrypted,
-        header_protection_mask: header.header_protection_mask,
-    };
-    BluefinHeader {
-        version: header.version,
-        type_field: type_of(header.type_field),
-        type_specific_payload: header.type_specific_payload,
-        security_fields: security,
-        source_connection_id: header.source_connection_id,
-        destination_connection_id: header.destination_connection_id,
-        packet_number: header.packet_number,
-    }
-}
-
-pub fn flat_header(header: BluefinHeader) -> Header
-    ensures { λ r. ⌜ r ≡ flatHeader header ⌝ }
-{
-    let type_field = header.type_field;
-    let security = header.security_fields;
-    Header {
-        packet_number: header.packet_number,
-        source_connection_id: header.source_connection_id,
-        destination_connection_id: header.destination_connection_id,
-        type_specific_payload: header.type_specific_payload,
-        version: header.version,
-        type_field: header::type_number(type_field),
-        header_protection_mask: security.header_protection_mask,
-        header_encrypted: security.header_encrypted,
-    }
-}
-
-fn no_header() -> Header
-    ensures { λ r. ⌜ r ≡ noHeader ⌝ }
-{
-    Header {
-        packet_number: 0,
-        source_connection_id: 0,
-        destination_connection_id: 0,
-        type_specific_payload: 0,
-        version: 0,
-        type_field: 0,
-        header_protection_mask: 0,
-        header_encrypted: false,
-    }
-}
-
-pub fn written_of(answer: HeaderWritten) -> Written
-    ensures { λ r. ⌜ r ≡ writtenOf (headerWrittenSays answer) ⌝ }
-{
-    match answer {
-        HeaderWritten::Bytes(n) => Written {
-            bytes: n,
-            refusal: 0,
-        },
-        HeaderWritten::Refused(r) => Written {
-            bytes: 0,
-            refusal: refusal::number(r),
-        },
-    }
-}
-
-pub fn header_read_of(answer: header::HeaderRead) -> HeaderRead
-    ensures { λ r. ⌜ r ≡ headerReadOf (headerReadSays answer) ⌝ }
-{
-    match answer {
-        header::HeaderRead::Header(h) => HeaderRead {
-            header: flat_header(h),
-            cursor: 0,
-            refusal: 0,
-        },
-        header::HeaderRead::Refused(r, at) => HeaderRead {
-            header: no_header(),
-            cursor: at,
-            refusal: refusal::number(r),
-        },
-    }
-}
+ghost use Rattle.header.specs.Header.{serialisesInto, deserialises};
+ghost use Rattle.flat.specs.declared.headers.Written.{Written};
+ghost use Rattle.flat.specs.Answers.{firstBy};
+ghost use Rattle.flat.specs.Headers.{headerIn, unlessUnknown, writtenOf, headerReadOf};
 
 #[no_mangle]
 pub extern "C" fn bluefin_header_serialise_into(header: Header, buf: &mut [u8]) -> Written
     ensures { λ r. ⌜ _≡_ {A = Written × List ℕ} (r, now (buf .exit)) (firstBy writtenOf (unlessUnknown header (now (buf .entry)) (serialisesInto (headerIn header) (now (buf .entry))))) ⌝ }
 {
     if header.type_field >= 7 {
-        return written_of(HeaderWritten::Refused(Refusal::UnknownType));
+        return flat::headers::written_of(HeaderWritten::Refused(Refusal::UnknownType));
     }
-    written_of(header_in(header).serialise_into(buf))
+    flat::headers::written_of(flat::headers::header_in(header).serialise_into(buf))
 }
 
 #[no_mangle]
 pub extern "C" fn bluefin_header_deserialise(bytes: &[u8]) -> HeaderRead
     ensures { λ r. ⌜ r ≡ headerReadOf (deserialises (now (bytes .entry))) ⌝ }
 {
-    header_read_of(BluefinHeader::deserialise(bytes))
+    flat::headers::header_read_of(BluefinHeader::deserialise(bytes))
 }

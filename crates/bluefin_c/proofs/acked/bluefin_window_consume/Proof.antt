@@ -1,5 +1,5 @@
 -- `bluefin_c::acked::bluefin_window_consume` meets its contract. Assumes nothing.
-use Rattle.bluefin_c.specs.Acked.{runOf}
+use Rattle.flat.specs.Acked.{runOf}
 use Rattle.bluefin_c.proofs.Flat.{flat-window}
 use borrow.Author.Needs.{needs}
 use Rattle.bluefin_c.proofs.acked.bluefin_window_consume.Statement.{statement}

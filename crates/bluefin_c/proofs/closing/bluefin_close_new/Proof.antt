@@ -1,6 +1,6 @@
 -- `bluefin_c::closing::bluefin_close_new` meets its contract. Assumes nothing.
 use mathlib.Core.Path.{ap, _∙_}
-use Rattle.bluefin_c.specs.Closing.{flatClose}
+use Rattle.flat.specs.Closing.{flatClose}
 use borrow.Author.Needs.{needs}
 use Rattle.bluefin_c.proofs.closing.bluefin_close_new.Statement.{statement}
 use Rattle.bluefin_c.proofs.closing.bluefin_close_new.Tie as tie

@@ -1,6 +1,6 @@
 -- `bluefin_c::headers::bluefin_header_deserialise` meets its contract. Assumes nothing.
 use mathlib.Core.Path.{ap, _∙_}
-use Rattle.bluefin_c.specs.Headers.{headerReadOf}
+use Rattle.flat.specs.Headers.{headerReadOf}
 use borrow.Author.Needs.{needs}
 use Rattle.bluefin_c.proofs.headers.bluefin_header_deserialise.Statement.{statement}
 use Rattle.bluefin_c.proofs.headers.bluefin_header_deserialise.Tie as tie

@@ -2,7 +2,7 @@
 use mathlib.Core.Path.{ap, _∙_}
 use borrow.Author.Tests.{le-ltb}
 use Rattle.header.specs.Header.{serialisesInto}
-use Rattle.bluefin_c.specs.Headers.{writtenOf}
+use Rattle.flat.specs.Headers.{writtenOf}
 use Rattle.bluefin_c.proofs.Flat.{flat-first, known}
 use denote.Ref.{now}
 use borrow.Author.Needs.{needs}

@@ -1,5 +1,5 @@
 -- `bluefin_c::packets::bluefin_from_bytes_into` meets its contract. Assumes nothing.
-use Rattle.bluefin_c.specs.Packets.{parsedOf}
+use Rattle.flat.specs.Packets.{parsedOf}
 use Rattle.bluefin_c.proofs.Flat.{flat-first}
 use borrow.Author.Needs.{needs}
 use Rattle.bluefin_c.proofs.packets.bluefin_from_bytes_into.Statement.{statement}

@@ -50,15 +50,15 @@ use Rattle.writer.proofs.acks.consume_acks_into as callee
 use Rattle.writer.proofs.acks.consume_acks_into.Symbol as callee-def
 use Rattle.writer.proofs.acks.consume_acks_into.Symbol.{name as #callee}
 use Rattle.writer.proofs.acks.consume_acks_into.Met as callee-thm
-use Rattle.bluefin_c.specs.RingAnswers.{acksOf, flatAcks}
-use Rattle.bluefin_c.specs.declared.ring.AcksPacked.{AcksPacked}
+use Rattle.flat.specs.RingAnswers.{acksOf, flatAcks}
+use Rattle.flat.specs.declared.ring.AcksPacked.{AcksPacked}
 use Rattle.bluefin_c.proofs.RingFlat.{flat-acks}
 use Rattle.bluefin_c.proofs.Converted.{converted, converted-says, Converts, converted-of, to-convert, goes-convert}
-use Rattle.bluefin_c.proofs.ring.AcksPacked as Y
-use Rattle.bluefin_c.proofs.ring.AcksPacked.Laws as Y′
-use Rattle.bluefin_c.proofs.ring.acks_packed_of.Symbol as convert-def
-use Rattle.bluefin_c.proofs.ring.acks_packed_of.Symbol.{name as #convert}
-use Rattle.bluefin_c.proofs.ring.acks_packed_of.Met as convert-thm
+use Rattle.flat.proofs.ring.AcksPacked as Y
+use Rattle.flat.proofs.ring.AcksPacked.Laws as Y′
+use Rattle.flat.proofs.ring.acks_packed_of.Symbol as convert-def
+use Rattle.flat.proofs.ring.acks_packed_of.Symbol.{name as #convert}
+use Rattle.flat.proofs.ring.acks_packed_of.Met as convert-thm
 use Rattle.bluefin_c.proofs.ring.bluefin_consume_acks_into.Key.{name as #self}
 use Rattle.bluefin_c.proofs.ring.bluefin_consume_acks_into as self
 use Rattle.bluefin_c.proofs.ring.bluefin_consume_acks_into.Statement as stated
@@ -201,4 +201,4 @@ bluefin-consume-acks-into-spec 𝓤 H 𝓜 𝓖 𝓡 =
     (tables 𝓤 H 𝓜 𝓡 code.env .C) (tables 𝓤 H 𝓜 𝓡 code.env .Λ) #self code.function (code.unfolded 𝓤 H 𝓜 𝓡)
     (acks-meets 𝓤 H (𝓖 .A) (givenOf 𝓤 H 𝓜 𝓖) (𝓜 .mem) (𝓡 .run) (tablesOf 𝓤 H 𝓜 (tables 𝓤 H 𝓜 𝓡 code.env))
     (cited 𝓤 H (Callee 𝓤 H (𝓖 .A) (𝓜 .mem) (𝓡 .run)) 𝓜 𝓡 code.env #callee callee-def.routine code.calls-writer·acks·consume-acks-into (callee-thm.met 𝓤 H 𝓜 𝓖 𝓡))
-    (cited 𝓤 H (Conversion 𝓤 H (𝓖 .A) (𝓜 .mem) (𝓡 .run)) 𝓜 𝓡 code.env #convert convert-def.routine code.calls-bluefin-c·ring·acks-packed-of (convert-thm.met 𝓤 H 𝓜 𝓖 𝓡)))
+    (cited 𝓤 H (Conversion 𝓤 H (𝓖 .A) (𝓜 .mem) (𝓡 .run)) 𝓜 𝓡 code.env #convert convert-def.routine code.calls-flat·ring·acks-packed-of (convert-thm.met 𝓤 H 𝓜 𝓖 𝓡)))

@@ -11,13 +11,13 @@ use Rattle.ring_buffer.proofs.Peeked.Laws as X′
 use Rattle.ring_buffer.proofs.front.Symbol as callee-def
 use Rattle.ring_buffer.proofs.front.Symbol.{name as #callee}
 use Rattle.ring_buffer.proofs.front.Met as callee-thm
-use Rattle.bluefin_c.specs.RingAnswers.{poppedOf}
+use Rattle.flat.specs.RingAnswers.{poppedOf}
 use Rattle.bluefin_c.proofs.LentShared.{Callee, Conversion, meets}
-use Rattle.bluefin_c.proofs.ring.Popped as Y
-use Rattle.bluefin_c.proofs.ring.Popped.Laws as Y′
-use Rattle.bluefin_c.proofs.ring.peeked_of.Symbol as convert-def
-use Rattle.bluefin_c.proofs.ring.peeked_of.Symbol.{name as #convert}
-use Rattle.bluefin_c.proofs.ring.peeked_of.Met as convert-thm
+use Rattle.flat.proofs.ring.Popped as Y
+use Rattle.flat.proofs.ring.Popped.Laws as Y′
+use Rattle.flat.proofs.ring.peeked_of.Symbol as convert-def
+use Rattle.flat.proofs.ring.peeked_of.Symbol.{name as #convert}
+use Rattle.flat.proofs.ring.peeked_of.Met as convert-thm
 use Rattle.bluefin_c.proofs.ring.bluefin_ring_front.Key.{name as #self}
 use Rattle.bluefin_c.proofs.ring.bluefin_ring_front as self
 use Rattle.bluefin_c.proofs.ring.bluefin_ring_front.Statement as stated
@@ -32,4 +32,4 @@ bluefin-ring-front-spec 𝓤 H 𝓜 𝓖 𝓡 =
     (λ p v is. EL.lawful X.the-type X′.the-laws 𝓤 H (𝓖 .A) (givenOf 𝓤 H 𝓜 𝓖) tt .typed p _ is .0) (λ p v is. LL.lawful Y.the-type Y′.the-laws 𝓤 H (𝓖 .A) (givenOf 𝓤 H 𝓜 𝓖) .typed p _ is .0)
     #callee #convert (tablesOf 𝓤 H 𝓜 (tables 𝓤 H 𝓜 𝓡 code.env))
     (cited 𝓤 H (Callee X.the-row Y.the-row peekedSays poppedOf front 𝓤 H (𝓖 .A)) 𝓜 𝓡 code.env #callee callee-def.routine code.calls-ring-buffer·front (callee-thm.met 𝓤 H 𝓜 𝓖 𝓡))
-    (cited 𝓤 H (Conversion X.the-row Y.the-row peekedSays poppedOf front 𝓤 H (𝓖 .A)) 𝓜 𝓡 code.env #convert convert-def.routine code.calls-bluefin-c·ring·peeked-of (convert-thm.met 𝓤 H 𝓜 𝓖 𝓡)))
+    (cited 𝓤 H (Conversion X.the-row Y.the-row peekedSays poppedOf front 𝓤 H (𝓖 .A)) 𝓜 𝓡 code.env #convert convert-def.routine code.calls-flat·ring·peeked-of (convert-thm.met 𝓤 H 𝓜 𝓖 𝓡)))

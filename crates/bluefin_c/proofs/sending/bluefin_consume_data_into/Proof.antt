@@ -1,5 +1,5 @@
 -- `bluefin_c::sending::bluefin_consume_data_into` meets its contract. Assumes nothing.
-use Rattle.bluefin_c.specs.Sending.{dataPackedOf}
+use Rattle.flat.specs.Sending.{dataPackedOf}
 use Rattle.bluefin_c.proofs.Flat.{flat-first}
 use borrow.Author.Needs.{needs}
 use Rattle.bluefin_c.proofs.sending.bluefin_consume_data_into.Statement.{statement}

@@ -1,6 +1,6 @@
 -- `bluefin_c::sending::bluefin_reserve_close_packet_num` meets its contract. Assumes nothing.
 use mathlib.Core.Path.{ap, _∙_}
-use Rattle.bluefin_c.specs.Sending.{reservedOf}
+use Rattle.flat.specs.Sending.{reservedOf}
 use borrow.Author.Needs.{needs}
 use Rattle.bluefin_c.proofs.sending.bluefin_reserve_close_packet_num.Statement.{statement}
 use Rattle.bluefin_c.proofs.sending.bluefin_reserve_close_packet_num.Tie as tie

@@ -1,5 +1,5 @@
 -- `bluefin_c::sending::bluefin_write_fin` meets its contract. Assumes nothing.
-use Rattle.bluefin_c.specs.Headers.{writtenOf}
+use Rattle.flat.specs.Headers.{writtenOf}
 use Rattle.bluefin_c.proofs.Flat.{flat-first}
 use borrow.Author.Needs.{needs}
 use Rattle.bluefin_c.proofs.sending.bluefin_write_fin.Statement.{statement}

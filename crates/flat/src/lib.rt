@@ -1,0 +1,12 @@
+// Answers for hosts in C and Rust: each answer of a proved call, an enum there, as a struct of numbers side by side that C can declare.
+// Internal to this library: crates/bluefin_c hands them out.
+// Proved: each conversion is the one of specs/, on what the answer says in document 01's terms.
+pub mod acked;
+pub mod buffer;
+pub mod closing;
+pub mod datagrams;
+pub mod headers;
+pub mod hello;
+pub mod packets;
+pub mod ring;
+pub mod sending;
