@@ -10,7 +10,7 @@ use Rattle.flat.specs.declared.headers.Written.{Written}
 use Rattle.flat.specs.declared.headers.HeaderRead.{HeaderRead}
 use Rattle.flat.specs.Answers.{refusalIn, cursorIn, valueOr}
 
--- the header that the numbers mean, where the type is known
+-- the header that the numbers mean; a type number above 6 stands for the last type: writing refuses it first, and the handshake tests ask for earlier ones
 abbrev pub headerIn : Header → BluefinHeader
 headerIn h = record {
   version = h .version;

@@ -48,7 +48,7 @@ fn type_of(n: u8) -> PacketType
     }
 }
 
-// The header that a host's numbers mean. The caller has refused the type numbers above 6.
+// The header that a host's numbers mean. A type number above 6 stands for the last type: who writes refuses it first.
 pub fn header_in(header: Header) -> BluefinHeader
     ensures { λ r. ⌜ r ≡ headerIn header ⌝ }
 {
