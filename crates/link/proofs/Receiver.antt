@@ -24,7 +24,7 @@ use Rattle.ordered_bytes.specs.declared.OrderedBytes.{OrderedBytes}
 use Rattle.ordered_bytes.specs.Receiver.{Receiver, isHeld, placeAt, acceptChecks, accepted, payloads, available, consumed}
 use Rattle.ordered_bytes.specs.Buffer.{Buffer, view, wellFormed}
 use Rattle.ordered_bytes.specs.Calls.{creating, accepting, peeking, consuming, consumingBytes}
-use Rattle.ordered_bytes.proofs.Ring.{either}
+use Rattle.lists.proofs.Order.{either}
 use Rattle.ordered_bytes.proofs.View as buffer
 use Rattle.ordered_bytes.proofs.View.{view-fresh, length-held}
 use Rattle.ordered_bytes.proofs.Walk.{walk-full, consumed-part, consumed-whole}

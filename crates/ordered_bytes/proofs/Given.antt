@@ -18,7 +18,7 @@ use Rattle.ordered_bytes.specs.Receiver.{walk, payloads, numbersFit, bas
 use Rattle.ordered_bytes.specs.Buffer.{Buffer, slots, width, view, taken}
 use Rattle.ordered_bytes.specs.Calls.{given}
 use Rattle.ordered_bytes.proofs.WellFormed.{Good, is-fits}
-use Rattle.ordered_bytes.proofs.Ring.{either}
+use Rattle.lists.proofs.Order.{either}
 use Rattle.ordered_bytes.proofs.View.{length-carry, store-long}
 use Rattle.ordered_bytes.proofs.Walk.{consumed-part, consumed-whole, consumed-took}
 

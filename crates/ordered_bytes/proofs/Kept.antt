@@ -18,7 +18,8 @@ use Rattle.ordered_bytes.specs.Receiver.{isHeld, anyHeld, consumed, cons
 use Rattle.ordered_bytes.specs.Buffer.{Buffer, slots, width, slotAt, view, wellFormed, cleared, wrap, stored, taken}
 use Rattle.ordered_bytes.specs.Calls.{creating, starting, accepting, consuming, consumingBytes}
 use Rattle.ordered_bytes.proofs.WellFormed.{Shaped, Good, is-good}
-use Rattle.ordered_bytes.proofs.Ring.{either, length-cleared}
+use Rattle.lists.proofs.Order.{either}
+use Rattle.slots.proofs.Ring.{length-cleared}
 use Rattle.ordered_bytes.proofs.View.{fresh, view-fresh, slot-below, slot-ends, store-long, length-held, length-carry, held-small, stored-held, taken-held}
 use Rattle.ordered_bytes.proofs.Walk.{took-few, consumed-took, consumed-carries, pieces-took}
 use Rattle.ordered_bytes.proofs.Outcome.{Creating, makes, create-ways, renumbered, Starting, holds, starts, start-ways, Acceptable, Accepting, malformed, refused, stores, accept-ways, Consuming, short, reads, consume-ways, ConsumingBytes, empty, consume-bytes-ways}

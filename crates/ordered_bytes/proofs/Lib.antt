@@ -1,5 +1,4 @@
 pub mod WellFormed
-pub mod Ring
 pub mod View
 pub mod Walk
 pub mod Outcome

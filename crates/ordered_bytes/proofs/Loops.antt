@@ -15,7 +15,8 @@ use Rattle.lists.proofs.Cut.{take-cut, drop-cut, paste-part}
 use Rattle.ordered_bytes.specs.Receiver.{Walk, walk, nothing}
 use Rattle.ordered_bytes.specs.Buffer.{Buffer, slots, width, wrap, slotAt, view}
 use Rattle.ordered_bytes.proofs.WellFormed.{Good}
-use Rattle.ordered_bytes.proofs.Ring.{either, wrap-on}
+use Rattle.lists.proofs.Order.{either}
+use Rattle.slots.proofs.Ring.{wrap-on}
 use Rattle.ordered_bytes.proofs.Places.{front-at}
 use Rattle.ordered_bytes.proofs.View.{held-at, slot-below, slot-ends, store-long, length-in-slot, length-held}
 use Rattle.ordered_bytes.proofs.Walk.{walk-none, walk-split, walk-whole, walk-full}

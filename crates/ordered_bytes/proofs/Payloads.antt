@@ -15,7 +15,7 @@ use Rattle.lists.proofs.Cut.{paste-part, paste-cons}
 use Rattle.ordered_bytes.specs.Receiver.{payloads}
 use Rattle.ordered_bytes.specs.Buffer.{Buffer, slots, width, wrap, slotAt, view}
 use Rattle.ordered_bytes.proofs.WellFormed.{Good}
-use Rattle.ordered_bytes.proofs.Ring.{wrap-on}
+use Rattle.slots.proofs.Ring.{wrap-on}
 use Rattle.ordered_bytes.proofs.View.{slot-below, length-in-slot, length-held}
 use Rattle.ordered_bytes.proofs.Walk.{payloads-none, payloads-held, payloads-full, payloads-most}
 use Rattle.ordered_bytes.proofs.Places.{front-at}

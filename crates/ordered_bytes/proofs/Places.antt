@@ -10,7 +10,7 @@ use lib.ListN.{getD}
 use Rattle.ordered_bytes.specs.Receiver.{isHeld, placeAt, base}
 use Rattle.ordered_bytes.specs.Buffer.{Buffer, bufferOf, slots, width, slotAt, view}
 use Rattle.ordered_bytes.proofs.WellFormed.{Good}
-use Rattle.ordered_bytes.proofs.Ring.{wrap-zero}
+use Rattle.slots.proofs.Ring.{wrap-zero}
 use Rattle.ordered_bytes.proofs.View.{held-at}
 
 module _ (b : Buffer) where

@@ -18,7 +18,8 @@ use Rattle.lists.proofs.Paste.{length-part}
 use Rattle.ordered_bytes.specs.Receiver.{accepted, moved}
 use Rattle.ordered_bytes.specs.Buffer.{Buffer, slots, width, slotAt, inSlot, tabulate, view, stored, taken}
 use Rattle.ordered_bytes.proofs.WellFormed.{Good}
-use Rattle.ordered_bytes.proofs.Ring.{either, wrap-below, wrap-injective, wrap-on, wrap-round, length-cleared, cleared-later, cleared-at}
+use Rattle.lists.proofs.Order.{either}
+use Rattle.slots.proofs.Ring.{wrap-below, wrap-injective, wrap-on, wrap-round, length-cleared, cleared-later, cleared-at}
 
 -- ---- f 0, f 1 and so on
 

@@ -13,7 +13,7 @@ use lib.Seq.{drop-cons}
 use lib.Dec.{ltb}
 use borrow.Author.Tests.{ltb-true, ltb-false, lt-ltb, le-ltb, eqb-true, eqb-false}
 use Rattle.ordered_bytes.specs.Receiver.{Receiver, Walk, Read, isHeld, placeAt, base, nothing, whole, split, walk, payloads, carryPart, carryAndPackets, consumed, carryPiece, takenPayloads, pieces, consumedPieces}
-use Rattle.ordered_bytes.proofs.Ring.{either}
+use Rattle.lists.proofs.Order.{either}
 
 -- ---- a step, by what stands at distance k
 

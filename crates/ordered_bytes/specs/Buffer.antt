@@ -1,14 +1,16 @@
 -- The receive buffer as it lies in lent memory: which receiver it means, refusal 12's test, and how a change of the receiver is written back.
--- Document 01, "From packets to the reader" and the refusal table.
-use Prim.Native.Nat.{ℕ, zero, suc, _+_, _-_, _*_}
+-- Document 01, "From packets to the reader" and the refusal table. What concerns the slots alone is said in crates/slots.
+use Prim.Native.Nat.{ℕ, zero, suc, _+_, _*_}
 use mathlib.Core.Bool.{Bool, true, false, cond, _&&_}
 use mathlib.Core.Option.{Option, none, some}
 use mathlib.Core.List.{List, [], _∷_}
 use lib.ListN.{length, take, drop, set, getD}
 use lib.Seq.{paste}
-use lib.Dec.{ltb, leb, eqb}
+use lib.Dec.{ltb, leb}
 use Rattle.ordered_bytes.specs.declared.OrderedBytes.{OrderedBytes}
 use Rattle.ordered_bytes.specs.Receiver.{Receiver, numbersFit}
+pub use Rattle.slots.specs.Slots.{wrap, cleared, between, shapeFits}
+unfoldable pub use Rattle.slots.specs.Slots.{allWithin}
 
 -- the state and all that is lent beside it
 pub record Buffer : Type 0 where
@@ -27,10 +29,6 @@ slots b = length (b .marks)
 -- W
 abbrev pub width : Buffer → ℕ
 width b = b .state .«slot_width»
-
--- an index below 2 N, round the ring of N slots
-abbrev pub wrap : ℕ → ℕ → ℕ
-wrap n i = cond (ltb i n) i (i - n)
 
 -- the slot at a distance from the front slot
 abbrev pub slotAt : Buffer → ℕ → ℕ
@@ -56,18 +54,6 @@ view b = record {
 
 -- ---- refusal 12
 
-abbrev pub between : ℕ → ℕ → ℕ → Bool
-between least most n = leb least n && leb n most
-
--- "N slots (1 to 2,000 ..), each W bytes wide (1 to 65,535), in a lent store of (N + 1) × W bytes": what `new` asks
-abbrev pub shapeFits : ℕ → List Bool → List ℕ → List ℕ → Bool
-shapeFits w marks lengths store =
-    between 1 2000 (length marks) && (between 1 65535 w && (eqb (length lengths) (length marks) && eqb (length store) ((length marks + 1) * w)))
-
-unfoldable pub allWithin : ℕ → List ℕ → Bool
-allWithin w [] = true
-allWithin w (l ∷ ls) = leb l w && allWithin w ls
-
 -- "N, W, store, front slot, slot or carry-over length out of range; a held number above 2^64 − 2"
 unfoldable pub wellFormed : Buffer → Bool
 wellFormed b =
@@ -87,11 +73,6 @@ stored b i payload = record {
   lengths = set (b .lengths) i (length payload);
   store = paste (b .store) (i * width b) payload (length payload);
 }
-
--- the k slots from i on, round a ring of n, each set to x
-abbrev pub cleared : {A : Type 0} → ℕ → ℕ → ℕ → A → List A → List A
-cleared n i zero x l = l
-cleared n i (suc k) x l = cleared n (wrap n (i + 1)) k x (set l i x)
 
 -- k packets have left their slots from the front ("A taken slot loses its mark, its length becomes 0"), and the carry-over is another
 -- ("Carry-over begins at the extra W's start, its rest moved there after each read. No other store bytes change")

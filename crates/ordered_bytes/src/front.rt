@@ -10,7 +10,6 @@ ghost use Rattle.lists.specs.Numbers.{largest};
 ghost use Rattle.ordered_bytes.specs.Receiver.{base};
 ghost use Rattle.ordered_bytes.specs.Buffer.{bufferOf, view, wellFormed, taken};
 use crate::OrderedBytes;
-use crate::slots;
 
 // "Base is the front packet's number before the walk, or 0 if none is held."
 pub fn base_packet_number(o: OrderedBytes, marks: &[bool]) -> u64

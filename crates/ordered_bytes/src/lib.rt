@@ -9,7 +9,6 @@ use refusal::Refusal;
 
 mod front;
 mod pieces;
-mod slots;
 mod state;
 mod stream;
 
@@ -75,7 +74,7 @@ pub fn well_formed(o: OrderedBytes, marks: &[bool], lengths: &[u32], store: &[u8
     ensures { λ r. ⌜ r ≡ wellFormed (bufferOf o (now (marks .entry)) (now (lengths .entry)) (now (store .entry))) ⌝ }
 {
     let slot_width = o.slot_width;
-    if !state::shape_fits(slot_width, marks, lengths, store) {
+    if !slots::shape_fits(slot_width, marks, lengths, store) {
         return false;
     }
     if marks.len() <= o.front_slot {
@@ -84,7 +83,7 @@ pub fn well_formed(o: OrderedBytes, marks: &[bool], lengths: &[u32], store: &[u8
     if slot_width < o.carry_len {
         return false;
     }
-    if !state::lengths_within(slot_width as u32, lengths) {
+    if !slots::lengths_within(slot_width as u32, lengths) {
         return false;
     }
     state::held_numbers_fit(o, marks)
@@ -100,11 +99,10 @@ pub fn new(
 ) -> Created
     ensures { λ r. ⌜ record { said = createdSays r; marks = now (marks .exit); lengths = now (lengths .exit) } ≡ creating «slot_width» «start_packet_number» (now (marks .entry)) (now (lengths .entry)) (now (store .entry)) ⌝ }
 {
-    if !state::shape_fits(slot_width, marks, lengths, store) {
+    if !slots::shape_fits(slot_width, marks, lengths, store) {
         return Created::Refused(Refusal::Malformed);
     }
-    slots::clear_marks(marks);
-    slots::clear_lengths(lengths);
+    slots::clear_slots(marks, lengths);
     Created::Buffer(OrderedBytes {
         slot_width: slot_width,
         front_slot: 0,

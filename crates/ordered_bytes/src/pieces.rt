@@ -17,7 +17,6 @@ use crate::ConsumeResult;
 use crate::ConsumedBytes;
 use crate::OrderedBytes;
 use crate::front;
-use crate::slots;
 
 // Payloads of held packets from the front on, and their bytes.
 struct Payloads {

@@ -14,7 +14,6 @@ ghost use Rattle.ordered_bytes.specs.Calls.{consumedSays};
 use crate::ConsumeAnswer;
 use crate::ConsumeResult;
 use crate::OrderedBytes;
-use crate::slots;
 use refusal::Refusal;
 
 // What a walk took: packets, bytes given, and where in the store the rest of a split packet stands and how long it is.

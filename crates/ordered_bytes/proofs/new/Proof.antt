@@ -19,11 +19,8 @@ returns : tie.Need-returns
 unfolding creating
 returns c = simp (sym (c .before .shape-fits .ensures) ∙ not-true _ (c .if1 .taken))
 
-clear-marks-requires : tie.Need-clear-marks-requires
-clear-marks-requires c κs = search needs
-
-clear-lengths-requires : tie.Need-clear-lengths-requires
-clear-lengths-requires c κs = search needs
+clear-slots-requires : tie.Need-clear-slots-requires
+clear-slots-requires c κs = search needs
 
 same-length-3 : tie.Need-same-length-3
 same-length-3 c = search needs
@@ -34,10 +31,9 @@ same-length-4 c = search needs
 returns-2 : tie.Need-returns-2
 unfolding creating
 returns-2 c =
-    let lengths = c .before .before in
-    let marks = lengths .before .before .before .before in
-    let test = marks .before .before in
-    simp (sym (test .before .shape-fits .ensures) ∙ not-false _ (test .if1 .left)) (rw (lengths .clear-lengths .ensures, marks .clear-marks .ensures))
+    let cleared = c .before .before .before .before in
+    let test = cleared .before .before .before in
+    simp (sym (test .before .shape-fits .ensures) ∙ not-false _ (test .if1 .left)) (rw (cleared .clear-slots .ensures .0, cleared .clear-slots .ensures .1))
 
 pub new-spec : {M : Type 1} → statement M
 new-spec =
@@ -47,8 +43,7 @@ new-spec =
     same-length
     same-length-2
     returns
-    clear-marks-requires
-    clear-lengths-requires
+    clear-slots-requires
     same-length-3
     same-length-4
     returns-2)

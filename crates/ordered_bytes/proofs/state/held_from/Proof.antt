@@ -7,7 +7,7 @@ use native.Mathlib.Omega.{arith}
 use lib.ListN.{drop, getD}
 use borrow.Author.Needs.{needs}
 use Rattle.ordered_bytes.specs.Receiver.{anyHeld}
-use Rattle.ordered_bytes.proofs.Ring.{wrap-below}
+use Rattle.slots.proofs.Ring.{wrap-below}
 use Rattle.ordered_bytes.proofs.Tests.{marked, marks-alone, marked-step, marked-ends}
 use Rattle.ordered_bytes.proofs.state.held_from.Statement.{statement}
 use Rattle.ordered_bytes.proofs.state.held_from.Tie as tie

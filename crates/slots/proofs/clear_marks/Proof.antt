@@ -1,4 +1,4 @@
--- `ordered_bytes::slots::clear_marks` meets its contract. The invariant: the first i marks are false, the others as they were. Assumes nothing.
+-- `slots::clear_marks` meets its contract. The invariant: the first i marks are false, the others as they were. Assumes nothing.
 use Prim.Native.Nat.{_-_, _≤_}
 use mathlib.Core.Path.{_≡_, refl, ap, _∙_}
 use mathlib.Core.Bool.{Bool, false}
@@ -7,8 +7,8 @@ use native.Mathlib.Omega.{arith}
 use lib.ListN.{length, drop, set, replicate, length-set}
 use Rattle.lists.proofs.Fill.{fill-more, fill-all}
 use borrow.Author.Needs.{needs}
-use Rattle.ordered_bytes.proofs.slots.clear_marks.Statement.{statement}
-use Rattle.ordered_bytes.proofs.slots.clear_marks.Tie as tie
+use Rattle.slots.proofs.clear_marks.Statement.{statement}
+use Rattle.slots.proofs.clear_marks.Tie as tie
 
 abbrev Inv-loop : tie.InvT-loop
 Inv-loop marks₀ i₀ marks i = (i ≤ length marks₀) × (length marks ≡ length marks₀) × (marks ≡ replicate i false ++ drop i marks₀)

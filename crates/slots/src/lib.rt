@@ -1,12 +1,53 @@
-// The ring of slots: which slot stands where, and slots that are emptied.
-// Ports `wrap_index` of net/ordered_bytes.rs; document 01, "A taken slot loses its mark, its length becomes 0".
-// Proved: which slot, and each lent list as it is left.
+// The slots of the receive buffer: the shape of the lent lists, which slot stands where round the ring, slots that are emptied, a payload stored in a slot.
+// Ports `wrap_index` of net/ordered_bytes.rs; document 01, "From packets to the reader".
+// Internal to this library, so a function may ask that a slot lies in the ring; every public call above it refuses first.
+// Proved: which slot, each lent list as it is left, and that each test is the definition's.
 ghost use mathlib.Core.Path.{_≡_};
 ghost use mathlib.Core.Bool.{true, false};
 ghost use Prim.Native.Nat.{_+_, _*_, _≤_, _<_};
 ghost use lib.ListN.{length, set, replicate};
 ghost use lib.Seq.{paste};
-ghost use Rattle.ordered_bytes.specs.Buffer.{wrap, cleared};
+ghost use Rattle.slots.specs.Slots.{wrap, cleared, shapeFits, allWithin};
+
+// net/ordered_bytes.rs, MAX_BUFFER_SIZE: the most slots.
+const MAX_BUFFER_SIZE: usize = 2000;
+
+const MAX_SLOT_WIDTH: usize = 65535;
+
+// Of refusal 12's test: N, W and the lent lists' lengths.
+pub fn shape_fits(slot_width: usize, marks: &[bool], lengths: &[u32], store: &[u8]) -> bool
+    ensures { λ r. ⌜ r ≡ shapeFits «slot_width» (now (marks .entry)) (now (lengths .entry)) (now (store .entry)) ⌝ }
+{
+    let n = marks.len();
+    if n < 1 {
+        return false;
+    }
+    if MAX_BUFFER_SIZE < n {
+        return false;
+    }
+    if slot_width < 1 {
+        return false;
+    }
+    if MAX_SLOT_WIDTH < slot_width {
+        return false;
+    }
+    lengths.len() == n && store.len() == (n + 1) * slot_width
+}
+
+// Of refusal 12's test: no slot's length out of range. One flag and no early exit: the compiler tests many lengths at once.
+pub fn lengths_within(slot_width: u32, lengths: &[u32]) -> bool
+    ensures { λ r. ⌜ r ≡ allWithin «slot_width» (now (lengths .entry)) ⌝ }
+{
+    let mut i = 0;
+    let mut within = true;
+    while i < lengths.len() {
+        if slot_width < lengths[i] {
+            within = false;
+        }
+        i += 1;
+    }
+    within
+}
 
 // net/ordered_bytes.rs, wrap_index. A compare and a subtract; N need not be a power of two.
 pub fn wrap_index(n: usize, base: usize, offset: usize) -> usize
@@ -17,7 +58,7 @@ pub fn wrap_index(n: usize, base: usize, offset: usize) -> usize
     if raw < n { raw } else { raw - n }
 }
 
-pub fn clear_marks(marks: &mut [bool])
+fn clear_marks(marks: &mut [bool])
     ensures { λ _. ⌜ now (marks .exit) ≡ replicate (length (now (marks .entry))) false ⌝ }
 {
     let mut i = 0;
@@ -27,7 +68,7 @@ pub fn clear_marks(marks: &mut [bool])
     }
 }
 
-pub fn clear_lengths(lengths: &mut [u32])
+fn clear_lengths(lengths: &mut [u32])
     ensures { λ _. ⌜ now (lengths .exit) ≡ replicate (length (now (lengths .entry))) 0 ⌝ }
 {
     let mut i = 0;
@@ -37,7 +78,16 @@ pub fn clear_lengths(lengths: &mut [u32])
     }
 }
 
-// Empties the `count` slots from `first` on, round the ring.
+// Empties all slots.
+pub fn clear_slots(marks: &mut [bool], lengths: &mut [u32])
+    ensures { λ _. ⌜ now (marks .exit) ≡ replicate (length (now (marks .entry))) false ⌝ }
+    ensures { λ _. ⌜ now (lengths .exit) ≡ replicate (length (now (lengths .entry))) 0 ⌝ }
+{
+    clear_marks(marks);
+    clear_lengths(lengths);
+}
+
+// "A taken slot loses its mark, its length becomes 0." Empties the `count` slots from `first` on, round the ring.
 pub fn take_slots(first: usize, count: usize, marks: &mut [bool], lengths: &mut [u32])
     requires { ⌜ (length (now marks) ≤ 2000) × (first < length (now marks)) × (length (now lengths) ≡ length (now marks)) ⌝ }
     ensures { λ _. ⌜ now (marks .exit) ≡ cleared (length (now (marks .entry))) first count false (now (marks .entry)) ⌝ }

@@ -1,8 +1,8 @@
--- `ordered_bytes::slots::store_in` meets its contract. Assumes nothing.
+-- `slots::store_in` meets its contract. Assumes nothing.
 use mathlib.Core.Path.{refl}
 use borrow.Author.Needs.{needs}
-use Rattle.ordered_bytes.proofs.slots.store_in.Statement.{statement}
-use Rattle.ordered_bytes.proofs.slots.store_in.Tie as tie
+use Rattle.slots.proofs.store_in.Statement.{statement}
+use Rattle.slots.proofs.store_in.Tie as tie
 
 slice-write-marks : tie.Need-slice-write-marks
 slice-write-marks c = search needs

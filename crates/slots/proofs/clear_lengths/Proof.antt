@@ -1,4 +1,4 @@
--- `ordered_bytes::slots::clear_lengths` meets its contract. The invariant: the first i lengths are 0, the others as they were. Assumes nothing.
+-- `slots::clear_lengths` meets its contract. The invariant: the first i lengths are 0, the others as they were. Assumes nothing.
 use Prim.Native.Nat.{ℕ, _-_, _≤_}
 use mathlib.Core.Path.{_≡_, refl, ap, _∙_}
 use mathlib.Core.List.{List, _++_}
@@ -6,8 +6,8 @@ use native.Mathlib.Omega.{arith}
 use lib.ListN.{length, drop, set, replicate, length-set}
 use Rattle.lists.proofs.Fill.{fill-more, fill-all}
 use borrow.Author.Needs.{needs}
-use Rattle.ordered_bytes.proofs.slots.clear_lengths.Statement.{statement}
-use Rattle.ordered_bytes.proofs.slots.clear_lengths.Tie as tie
+use Rattle.slots.proofs.clear_lengths.Statement.{statement}
+use Rattle.slots.proofs.clear_lengths.Tie as tie
 
 abbrev Inv-loop : tie.InvT-loop
 Inv-loop lengths₀ i₀ lengths i = (i ≤ length lengths₀) × (length lengths ≡ length lengths₀) × (lengths ≡ replicate i 0 ++ drop i lengths₀)

@@ -1,4 +1,4 @@
--- `ordered_bytes::slots::take_slots` meets its contract. The invariant: clearing what is left, from the present slot on, gives what clearing all gave.
+-- `slots::take_slots` meets its contract. The invariant: clearing what is left, from the present slot on, gives what clearing all gave.
 -- Assumes nothing.
 use Prim.Native.Nat.{suc, _+_, _-_, _<_}
 use mathlib.Core.Path.{_≡_}
@@ -6,10 +6,10 @@ use mathlib.Core.Bool.{false}
 use native.Mathlib.Omega.{arith}
 use lib.ListN.{length, length-set}
 use borrow.Author.Needs.{needs}
-use Rattle.ordered_bytes.specs.Buffer.{wrap, cleared}
-use Rattle.ordered_bytes.proofs.Ring.{wrap-below}
-use Rattle.ordered_bytes.proofs.slots.take_slots.Statement.{statement}
-use Rattle.ordered_bytes.proofs.slots.take_slots.Tie as tie
+use Rattle.slots.specs.Slots.{wrap, cleared}
+use Rattle.slots.proofs.Ring.{wrap-below}
+use Rattle.slots.proofs.take_slots.Statement.{statement}
+use Rattle.slots.proofs.take_slots.Tie as tie
 
 abbrev Inv-loop : tie.InvT-loop
 Inv-loop first count marks₀ lengths₀ n slot₀ left₀ marks lengths slot left =

@@ -1,4 +1,4 @@
--- `ordered_bytes::state::shape_fits` meets its contract. Assumes nothing.
+-- `slots::shape_fits` meets its contract. Assumes nothing.
 use Prim.Native.Nat.{_+_, _≤_}
 use native.Mathlib.Omega.{arith}
 use native.Mathlib.Nat.{mul-le-mul}
@@ -6,8 +6,8 @@ use mir.Facts.{fits-le, fits-lit}
 use lib.ListN.{length}
 use borrow.Author.Needs.{needs}
 use borrow.Author.Tests.{le-leb, lt-leb, eq-eqb, ne-eqb}
-use Rattle.ordered_bytes.proofs.state.shape_fits.Statement.{statement}
-use Rattle.ordered_bytes.proofs.state.shape_fits.Tie as tie
+use Rattle.slots.proofs.shape_fits.Statement.{statement}
+use Rattle.slots.proofs.shape_fits.Tie as tie
 
 returns : tie.Need-returns
 returns c = simp (lt-leb _ _ (c .if1 .taken))

@@ -1,4 +1,4 @@
--- `ordered_bytes::state::lengths_within` meets its contract. The invariant: the flag and the test of what is left give the test of all.
+-- `slots::lengths_within` meets its contract. The invariant: the flag and the test of what is left give the test of all.
 -- Assumes nothing.
 use Prim.Native.Nat.{_-_, _≤_}
 use mathlib.Core.Path.{_≡_, refl, _∙_}
@@ -7,10 +7,10 @@ use mathlib.Core.Logic.{⊎-elim}
 use native.Mathlib.Omega.{arith}
 use lib.ListN.{length, drop}
 use borrow.Author.Needs.{needs}
-use Rattle.ordered_bytes.specs.Buffer.{allWithin}
-use Rattle.ordered_bytes.proofs.Tests.{within-keeps, within-fails, within-ends}
-use Rattle.ordered_bytes.proofs.state.lengths_within.Statement.{statement}
-use Rattle.ordered_bytes.proofs.state.lengths_within.Tie as tie
+use Rattle.slots.specs.Slots.{allWithin}
+use Rattle.slots.proofs.Within.{within-keeps, within-fails, within-ends}
+use Rattle.slots.proofs.lengths_within.Statement.{statement}
+use Rattle.slots.proofs.lengths_within.Tie as tie
 
 abbrev Inv-loop : tie.InvT-loop
 Inv-loop slot-width lengths i₀ within₀ i within = ((within && allWithin slot-width (drop i lengths)) ≡ allWithin slot-width lengths) × (i ≤ length lengths)

@@ -1,8 +1,8 @@
--- `ordered_bytes::slots::wrap_index` meets its contract. Assumes nothing.
+-- `slots::wrap_index` meets its contract. Assumes nothing.
 use borrow.Author.Needs.{needs}
 use borrow.Author.Tests.{lt-ltb, le-ltb}
-use Rattle.ordered_bytes.proofs.slots.wrap_index.Statement.{statement}
-use Rattle.ordered_bytes.proofs.slots.wrap_index.Tie as tie
+use Rattle.slots.proofs.wrap_index.Statement.{statement}
+use Rattle.slots.proofs.wrap_index.Tie as tie
 
 add-raw : tie.Need-add-raw
 add-raw c = search needs

@@ -5,16 +5,12 @@ use mathlib.Core.Path.{_≡_, refl, ap, _∙_}
 use mathlib.Core.Logic.{_⊎_, inl, inr, _≢_}
 use mathlib.Core.List.{List}
 use native.Mathlib.Omega.{arith}
-use native.Mathlib.Decide.{decLe}
 use native.Mathlib.Nat.{add-zero}
 use lib.ListN.{length, set, getD, length-set}
 use lib.Seq.{getD-set-same, getD-set-other}
 use borrow.Author.Tests.{lt-ltb, le-ltb}
-use Rattle.ordered_bytes.specs.Buffer.{wrap, cleared}
-
--- either way round two numbers stand
-pub either : {X : Type 0} (a b : ℕ) → (a ≤ b → X) → (b < a → X) → X
-either a b f g = elim (decLe a b) [ yes h ↦ f h | no h ↦ g (omega arith) ]
+use Rattle.lists.proofs.Order.{either}
+use Rattle.slots.specs.Slots.{wrap, cleared}
 
 pub wrap-low : {n i : ℕ} → i < n → wrap n i ≡ i
 wrap-low {n} {i} h = rw (lt-ltb i n h)
