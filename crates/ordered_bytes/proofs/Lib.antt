@@ -11,3 +11,4 @@ pub mod Payloads
 pub mod Taken
 pub mod Given
 pub mod Gathered
+pub mod Accept

@@ -1,18 +1,15 @@
 -- `ordered_bytes::buffer_in_packet_unchecked` meets its contract: each refusal in document 01's order, then the stored payload. Assumes nothing.
 use Prim.Native.Nat.{_-_, _<_}
-use mathlib.Core.Path.{_≡_, _∙_}
-use mathlib.Core.Bool.{false}
+use mathlib.Core.Path.{_≡_}
+use mathlib.Core.Bool.{Bool, false}
 use native.Mathlib.Nat.{le-of-lt}
 use native.Mathlib.Omega.{arith}
 use lib.ListN.{getD}
 use borrow.Author.Needs.{needs}
-use borrow.Author.Tests.{lt-ltb, le-ltb, le-leb, lt-leb, eq-eqb, ne-eqb}
-use Rattle.ordered_bytes.specs.Receiver.{isHeld, placeAt}
-use Rattle.ordered_bytes.specs.Buffer.{Buffer, bufferOf, view, slots}
-use Rattle.ordered_bytes.specs.Calls.{accepting}
+use Rattle.ordered_bytes.specs.Buffer.{Buffer, bufferOf, slots, slotAt}
 use Rattle.ordered_bytes.proofs.WellFormed.{Good, good}
-use Rattle.ordered_bytes.proofs.View.{length-held, slot-below, slot-ends, store-long}
-use Rattle.ordered_bytes.proofs.Places.{view-front, view-width, mark-at}
+use Rattle.ordered_bytes.proofs.View.{slot-below, slot-ends, store-long}
+use Rattle.ordered_bytes.proofs.Accept.{refuses-below, refuses-beyond, refuses-last, refuses-held, refuses-long, accepts}
 use Rattle.ordered_bytes.proofs.buffer_in_packet_unchecked.Statement.{statement}
 use Rattle.ordered_bytes.proofs.buffer_in_packet_unchecked.Tie as tie
 
@@ -32,26 +29,22 @@ start₃ c = start₁ (c .before .before)
 near : (c : tie.Else3) → let s = start₃ c in s .args .n - s .args .o .«front_number» < slots (entry s)
 near c = c .before .if2 .left
 
--- the mark read is the place's
-held : (c : tie.After-slice-known4) → let s = start₃ (c .before .before) in
-    isHeld (placeAt (view (entry s)) (s .args .n - s .args .o .«front_number»)) ≡ getD (s .args .marks .now) (c .before .wrap-index .result) false
-held c = let s = start₃ (c .before .before) in rw (c .before .wrap-index .ensures) (mark-at (entry s) (near (c .before .before)))
+-- the slot's mark, as it was read
+read : (c : tie.After-slice-known4) {m : Bool} → let s = start₃ (c .before .before) in
+    getD (s .args .marks .now) (c .before .wrap-index .result) false ≡ m
+    → getD (s .args .marks .now) (slotAt (entry s) (s .args .n - s .args .o .«front_number»)) false ≡ m
+read c {m} mark = rw (c .before .wrap-index .ensures) at mark
 
 returns : tie.Need-returns
-unfolding accepting
-returns c = let s = c .before .before .before .before .before in simp (s .pre, view-front (entry s), lt-ltb _ _ (c .if1 .taken))
+returns c = let s = c .before .before .before .before .before in refuses-below (entry s) (s .args .n) (s .args .payload .now) (s .pre) (c .if1 .taken)
 
 returns-2 : tie.Need-returns-2
-unfolding accepting
-returns-2 c =
-    let s = start₁ (c .before) in
-    simp (s .pre, view-front (entry s), length-held (entry s), le-ltb _ _ (c .before .if1 .left), le-leb _ _ (c .if2 .taken))
+returns-2 c = let s = start₁ (c .before) in refuses-beyond (entry s) (s .args .n) (s .args .payload .now) (s .pre) (c .before .if1 .left) (c .if2 .taken)
 
 returns-3 : tie.Need-returns-3
-unfolding accepting
 returns-3 c =
     let s = start₁ (c .before .before) in
-    simp (s .pre, view-front (entry s), length-held (entry s), le-ltb _ _ (c .before .before .if1 .left), lt-leb _ _ (c .before .if2 .left), eq-eqb _ _ (c .if3 .taken))
+    refuses-last (entry s) (s .args .n) (s .args .payload .now) (s .pre) (c .before .before .if1 .left) (c .before .if2 .left) (c .if3 .taken)
 
 wrap-index-requires : tie.Need-wrap-index-requires
 wrap-index-requires c κs = let g = facts (start₃ c) in search needs
@@ -60,19 +53,17 @@ slice-read-if4 : tie.Need-slice-read-if4
 slice-read-if4 c = let past = c .before .before in rw (c .before .wrap-index .ensures) (slot-below (facts (start₃ past)) (le-of-lt (near past)))
 
 returns-4 : tie.Need-returns-4
-unfolding accepting
 returns-4 c =
     let past = c .before .before .before in
     let s = start₃ past in
-    simp (s .pre, view-front (entry s), length-held (entry s), le-ltb _ _ (past .before .before .if1 .left), lt-leb _ _ (past .before .if2 .left), ne-eqb _ _ (past .if3 .left), held (c .before) ∙ c .if4 .taken)
+    refuses-held (entry s) (s .args .n) (s .args .payload .now) (s .pre) (past .before .before .if1 .left) (past .before .if2 .left) (past .if3 .left) (read (c .before) (c .if4 .taken))
 
 returns-5 : tie.Need-returns-5
-unfolding accepting
 returns-5 c =
-    let read = c .before .before in
-    let past = read .before .before .before in
+    let mark = c .before .before in
+    let past = mark .before .before .before in
     let s = start₃ past in
-    simp (s .pre, view-front (entry s), view-width (entry s), length-held (entry s), le-ltb _ _ (past .before .before .if1 .left), lt-leb _ _ (past .before .if2 .left), ne-eqb _ _ (past .if3 .left), held (read .before) ∙ read .if4 .left, lt-ltb _ _ (c .if5 .taken))
+    refuses-long (entry s) (s .args .n) (s .args .payload .now) (s .pre) (past .before .before .if1 .left) (past .before .if2 .left) (past .if3 .left) (read (mark .before) (mark .if4 .left)) (c .if5 .taken)
 
 store-in-requires : tie.Need-store-in-requires
 store-in-requires c κs =
@@ -94,16 +85,15 @@ same-length-3 : tie.Need-same-length-3
 same-length-3 c = search needs
 
 returns-6 : tie.Need-returns-6
-unfolding accepting
 returns-6 c =
     let put = c .before .before .before .before .before .before in
     let short = put .before .before .before .before in
-    let read = short .before .before in
-    let past = read .before .before .before in
+    let mark = short .before .before in
+    let past = mark .before .before .before in
     let s = start₃ past in
-    let slot = read .before .before .wrap-index .ensures in
-    simp (s .pre, view-front (entry s), view-width (entry s), length-held (entry s), le-ltb _ _ (past .before .before .if1 .left), lt-leb _ _ (past .before .if2 .left), ne-eqb _ _ (past .if3 .left), held (read .before) ∙ read .if4 .left, le-ltb _ _ (short .if5 .left))
-    (rw (put .store-in .ensures .0, put .store-in .ensures .1 .0, put .store-in .ensures .1 .1, slot))
+    let slot = mark .before .before .wrap-index .ensures in
+    rw (put .store-in .ensures .0, put .store-in .ensures .1 .0, put .store-in .ensures .1 .1, slot)
+    (accepts (entry s) (s .args .n) (s .args .payload .now) (s .pre) (past .before .before .if1 .left) (past .before .if2 .left) (past .if3 .left) (read (mark .before) (mark .if4 .left)) (short .if5 .left))
 
 pub buffer-in-packet-unchecked-spec : {M : Type 1} → statement M
 buffer-in-packet-unchecked-spec =
