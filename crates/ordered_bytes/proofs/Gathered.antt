@@ -7,15 +7,18 @@ use mathlib.Core.List.{List, [], _∷_, _++_, map, flatten}
 use native.Mathlib.Omega.{arith}
 use lib.ListN.{length, set, length-append}
 use lib.Seq.{paste}
-use lib.Dec.{eqb, eqb·suc-zero}
-use Rattle.refusal.specs.Said.{answers}
+use lib.Dec.{ltb, eqb, eqb·suc-zero}
+use borrow.Author.Tests.{ltb-false}
+use Rattle.refusal.specs.Said.{Said, answers, refuses, checks}
+use Rattle.refusal.proofs.Checks.{Passed, Checked, passes, fails, checked}
 use Rattle.lists.proofs.Cut.{paste-cons}
-use Rattle.ordered_bytes.specs.Receiver.{payloads, carryPiece, takenPayloads, pieces, base, consumedPieces}
-use Rattle.ordered_bytes.specs.Buffer.{Buffer, view, taken}
-use Rattle.ordered_bytes.specs.Calls.{PieceConsumption}
-use Rattle.ordered_bytes.proofs.WellFormed.{Good}
+use Rattle.ordered_bytes.specs.Receiver.{payloads, carryPiece, takenPayloads, pieces, base}
+use Rattle.ordered_bytes.specs.Buffer.{Buffer, view, wellFormed, taken}
+use Rattle.ordered_bytes.specs.Calls.{PieceConsumption, consumingBytes}
+use Rattle.ordered_bytes.proofs.WellFormed.{Good, good}
 use Rattle.ordered_bytes.proofs.View.{length-carry}
 use Rattle.ordered_bytes.proofs.Walk.{payloads-again, flatten-pieces}
+use Rattle.ordered_bytes.proofs.Outcome.{givenPieces}
 
 -- "carry-over is one piece", and "a carry-over length of 0 means none"
 pub carry-count : (c : List ℕ) → length (carryPiece c) ≡ cond (eqb (length c) 0) 0 1
@@ -73,31 +76,68 @@ module _ (b : Buffer) (limit : ℕ) {k : ℕ} (packets : k ≡ length (takenPayl
   pub again-pieces : carryPiece (view b .carry) ++ payloads k (view b .held) ≡ pieces (view b) limit
   again-pieces = rw again
 
--- what the call leaves, component by component
-pub pieces-given : (b : Buffer) (out list x : List ℕ) (ps : List (List ℕ)) {k n m from : ℕ} {out′ list′ : List ℕ} {after : Buffer}
-    → from ≡ base (view b)
-    → n ≡ length x
-    → m ≡ length ps
-    → after ≡ taken b k []
-    → out′ ≡ paste out 0 x (length x)
-    → list′ ≡ paste list 0 (map length ps) (length ps)
-    → _≡_ {A = PieceConsumption} (record { said = answers ((k, from, n), m); buffer = after; out = out′; list = list′ })
-    (record { said = answers ((k, base (view b), n), m); buffer = taken b k []; out = paste out 0 x n; list = paste list 0 (map length ps) m })
-pieces-given b out list x ps based bytes pieces left gave cells = rw (based, left, gave, cells, bytes, pieces)
+-- ---- the answer, decided before anything moves
 
--- those are the definition's
-pub gathered : (b : Buffer) (limit : ℕ) {k n m : ℕ}
-    → k ≡ length (takenPayloads (view b) limit)
-    → n ≡ length (flatten (pieces (view b) limit))
-    → m ≡ length (pieces (view b) limit)
-    → (out list : List ℕ) → let ps = payloads k (view b .held) in let r = consumedPieces (view b) limit in
-    _≡_ {A = PieceConsumption}
-    (record { said = answers ((k, base (view b), n), m); buffer = taken b k []; out = paste out 0 (view b .carry ++ flatten ps) n; list = paste list 0 (map length (carryPiece (view b .carry) ++ ps)) m })
-    (record {
-      said = answers ((r .packets, r .base, length (r .bytes)), length (pieces (view b) limit));
-      buffer = taken b (r .packets) (r .carry);
-      out = paste out 0 (r .bytes) (length (r .bytes));
-      list = paste list 0 (map length (pieces (view b) limit)) (length (pieces (view b) limit));
-    })
-gathered b limit {k} {n} {m} packets bytes count out list =
-    rw (again-bytes b limit packets, again-pieces b limit packets, packets, bytes, count)
+abbrev pieceChecks : ℕ → ℕ → ℕ → ℕ → List (Bool × ℕ)
+pieceChecks room cells bytes pieces = (ltb room bytes, 10) ∷ (ltb cells pieces, 10) ∷ (eqb pieces 0, 8) ∷ []
+
+module _ {A : Type 0} (v : A) where
+  -- an answer has passed the checks
+  said-passed : (cs : List (Bool × ℕ)) {w : A} → answers w ≡ checks cs refuses (answers v) → Passed cs × (w ≡ v)
+  said-passed cs {w} e = by (checked refuses (answers v) cs)
+    where
+      by : Checked cs refuses (answers v) → Passed cs × (w ≡ v)
+      by (passes p q) = let z : answers w ≡ answers v = e ∙ q in (p, cc)
+      by (fails n f q) = let z : answers w ≡ refuses n = e ∙ q in absurd (let y : _≡_ {A = ℕ} 0 1 = cc in omega arith)
+
+  -- a refusal is the number of the first that holds
+  said-failed : {B : Type 0} (cs : List (Bool × ℕ)) {n : ℕ} (refused : ℕ → B) (passed : B) → refuses n ≡ checks cs refuses (answers v) → checks cs refused passed ≡ refused n
+  said-failed [] {n} refused passed e = absurd (let y : _≡_ {A = ℕ} 0 1 = cc in omega arith)
+  said-failed {B = B} (c ∷ cs) {n} refused passed e = by (c .0) refl (said-failed cs refused passed)
+    where
+      by : (b : Bool) → c .0 ≡ b → (refuses n ≡ checks cs refuses (answers v) → checks cs refused passed ≡ refused n) → checks (c ∷ cs) refused passed ≡ refused n
+      by true t later = let z : refuses n ≡ refuses (c .1) = rw t at e in let y : n ≡ c .1 = cc in rw (t, y)
+      by false t later = rw t (later (rw t at e))
+
+module _ (b : Buffer) (limit : ℕ) (out list : List ℕ) {k from n m : ℕ} (well : wellFormed b ≡ true) (packets : k ≡ length (takenPayloads (view b) limit))
+    (count : m ≡ length (pieces (view b) limit)) (bytes : n ≡ length (flatten (pieces (view b) limit))) (based : from ≡ base (view b)) where
+  abbrev cs : List (Bool × ℕ)
+  cs = pieceChecks (length out) (length list) n m
+
+  abbrev Decided : Said ((ℕ × ℕ × ℕ) × ℕ) → Type 0
+  Decided said = _≡_ {A = Said ((ℕ × ℕ × ℕ) × ℕ)} said (checks cs refuses (answers ((k, from, n), m)))
+
+  abbrev refusing : ℕ → PieceConsumption
+  refusing r = record { said = refuses r; buffer = b; out = out; list = list }
+
+  -- a refusal leaves all as it came
+  pub pieces-refused : {said : Said ((ℕ × ℕ × ℕ) × ℕ)} {r : ℕ} → said ≡ refuses r → Decided said
+      → _≡_ {A = PieceConsumption} (record { said = said; buffer = b; out = out; list = list }) (consumingBytes b limit out list)
+  unfolding consumingBytes
+  pieces-refused {said} {r} says e = rw (well, says) (sym (rw (count, bytes) at (said-failed ((k, from, n), m) cs refusing (givenPieces b limit out list) (rw says at e))))
+
+  -- there is room for what is answered
+  pub pieces-room : {said : Said ((ℕ × ℕ × ℕ) × ℕ)} {w : (ℕ × ℕ × ℕ) × ℕ} → said ≡ answers w → Decided said
+      → (b .state .«carry_len» + length (flatten (payloads k (view b .held))) ≤ length out) × (cond (eqb (b .state .«carry_len») 0) 0 1 + k ≤ length list)
+  pieces-room says e =
+      let g = good well in
+      let p = said-passed ((k, from, n), m) cs (rw says at e) .0 in
+      let fits : n ≤ length out = ltb-false _ _ (p .0) in
+      let few : m ≤ length list = ltb-false _ _ (p .1 .0) in
+      let all = rw (length-append, length-carry g) at (bytes ∙ sym (ap length (again-bytes b limit packets))) in
+      let cells = rw (length-append, carry-count (view b .carry), length-carry g) at (count ∙ sym (ap length (again-pieces b limit packets))) in
+      (omega (arith, all, fits), omega (arith, cells, few, again-length b limit packets))
+
+  -- the answer, the buffer, the output and the list
+  pub pieces-given : {said : Said ((ℕ × ℕ × ℕ) × ℕ)} {w : (ℕ × ℕ × ℕ) × ℕ} {out′ list′ : List ℕ} {after : Buffer} → let ps = payloads k (view b .held) in
+      said ≡ answers w
+      → Decided said
+      → after ≡ taken b k []
+      → out′ ≡ paste out 0 (view b .carry ++ flatten ps) (length (view b .carry ++ flatten ps))
+      → list′ ≡ paste list 0 (map length (carryPiece (view b .carry) ++ ps)) (length (carryPiece (view b .carry) ++ ps))
+      → _≡_ {A = PieceConsumption} (record { said = said; buffer = after; out = out′; list = list′ }) (consumingBytes b limit out list)
+  unfolding consumingBytes
+  pieces-given says e left gave cells =
+      let p = said-passed ((k, from, n), m) cs (rw says at e) in
+      let q = rw (count, bytes) at (p .0) in
+      rw (well, q .0, q .1 .0, q .1 .1 .0, says, left, gave, cells, p .1, again-bytes b limit packets, again-pieces b limit packets, packets, bytes, count, based)

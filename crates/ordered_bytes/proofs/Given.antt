@@ -65,19 +65,20 @@ module _ {b : Buffer} (g : Good b) where
 
 -- ---- `consume`
 
--- what a read of `len` bytes has copied: packets, bytes, the output, and where in the store what it carries over stands
-abbrev pub ReadBytes : Buffer → ℕ → List ℕ → List ℕ → ℕ → ℕ → ℕ → ℕ → Type 0
-ReadBytes b len out out′ k n at rest =
+-- what a read of `len` bytes has copied: packets, base, bytes, the output, and where in the store what it carries over stands
+abbrev pub ReadBytes : Buffer → ℕ → List ℕ → List ℕ → ℕ → ℕ → ℕ → ℕ → ℕ → Type 0
+ReadBytes b len out out′ k from n at rest =
     (k ≡ consumed (view b) len .packets)
+    × ((from ≡ consumed (view b) len .base)
     × ((n ≡ length (consumed (view b) len .bytes))
     × ((out′ ≡ paste out 0 (consumed (view b) len .bytes) n)
-    × ((take rest (drop at (b .store)) ≡ consumed (view b) len .carry) × ((at + rest ≤ length (b .store)) × (rest ≤ width b)))))
+    × ((take rest (drop at (b .store)) ≡ consumed (view b) len .carry) × ((at + rest ≤ length (b .store)) × (rest ≤ width b))))))
 
 module _ {b : Buffer} (g : Good b) (len : ℕ) (out : List ℕ) where
   -- "A carry-over longer than the length gives that many bytes"
   pub part-read : {out′ : List ℕ} {part : ℕ} → len < b .state .«carry_len» → part ≡ min (b .state .«carry_len») len
       → out′ ≡ paste out 0 (drop (slots b * width b) (b .store)) part
-      → ReadBytes b len out out′ 0 len (slots b * width b + len) (b .state .«carry_len» - len)
+      → ReadBytes b len out out′ 0 0 len (slots b * width b + len) (b .state .«carry_len» - len)
   part-read {out′} {part} less cut pasted =
       let at = slots b * width b in
       let some : min (b .state .«carry_len») len ≡ len = omega arith in
@@ -89,16 +90,17 @@ module _ {b : Buffer} (g : Good b) (len : ℕ) (out : List ℕ) where
       let gave : out′ ≡ paste out 0 (take len (view b .carry)) len =
       rw all at pasted ∙ paste-part out (drop at (b .store)) (take len (view b .carry)) 0 len bytes long ∙ ap (paste out 0 (take len (view b .carry))) long in
       rw (consumed-part (view b) len (rw (length-carry g) less))
-      (refl, (sym long, (gave, (rest, (omega (arith, carry-in g), omega (arith, g .carry-w))))))
+      (refl, (refl, (sym long, (gave, (rest, (omega (arith, carry-in g), omega (arith, g .carry-w)))))))
 
   -- "Otherwise the carry-over is taken whole, then held packets"
-  pub whole-read : (at rest : ℕ) {out₁ out′ : List ℕ} {part k n : ℕ} → b .state .«carry_len» ≤ len → len ≤ length out → part ≡ min (b .state .«carry_len») len
+  pub whole-read : (at rest : ℕ) {out₁ out′ : List ℕ} {part k from n : ℕ} → b .state .«carry_len» ≤ len → len ≤ length out → part ≡ min (b .state .«carry_len») len
       → out₁ ≡ paste out 0 (drop (slots b * width b) (b .store)) part
       → let w = walk (len - b .state .«carry_len») (view b .held) in
       (k ≡ w .packets) × ((n ≡ length (w .bytes)) × ((out′ ≡ paste out₁ (b .state .«carry_len») (w .bytes) n)
       × ((take rest (drop at (b .store)) ≡ w .rest) × ((at + rest ≤ length (b .store)) × (rest ≤ width b)))))
-      → ReadBytes b len out out′ k (b .state .«carry_len» + n) at rest
-  whole-read at rest {out₁} {out′} {part} {k} {n} whole room cut first w =
+      → from ≡ base (view b)
+      → ReadBytes b len out out′ k from (b .state .«carry_len» + n) at rest
+  whole-read at rest {out₁} {out′} {part} {k} {from} {n} whole room cut first w based =
       let c = b .state .«carry_len» in
       let x = walk (len - c) (view b .held) .bytes in
       let all : part ≡ c = omega arith in
@@ -106,15 +108,15 @@ module _ {b : Buffer} (g : Good b) (len : ℕ) (out : List ℕ) where
       let gave : out′ ≡ paste out 0 (view b .carry ++ x) (length (view b .carry ++ x)) =
       carry-then g x out (omega arith) (rw all at first) (w .1 .1 .0 ∙ ap (paste out₁ c x) (w .1 .0)) in
       rw (consumed-whole (view b) len (rw (length-carry g) whole), length-carry g)
-      (w .0, (long, (gave ∙ ap (paste out 0 (view b .carry ++ x)) (sym long), w .1 .1 .1)))
+      (w .0, (based, (long, (gave ∙ ap (paste out 0 (view b .carry ++ x)) (sym long), w .1 .1 .1))))
 
   -- the answer, the buffer and the output
   pub read-given : {k n from : ℕ} {rest : List ℕ} {said : Said (ℕ × ℕ × ℕ)} {out′ : List ℕ} {after : Buffer}
       → k ≡ consumed (view b) len .packets
       → n ≡ length (consumed (view b) len .bytes)
       → rest ≡ consumed (view b) len .carry
-      → from ≡ base (view b)
-      → said ≡ cond (ltb len (b .state .«carry_len»)) (answers (k, 0, n)) (cond (eqb n 0) (refuses 8) (answers (k, from, n)))
+      → from ≡ consumed (view b) len .base
+      → said ≡ cond (ltb len (b .state .«carry_len»)) (answers (k, from, n)) (cond (eqb n 0) (refuses 8) (answers (k, from, n)))
       → out′ ≡ paste out 0 (consumed (view b) len .bytes) n
       → after ≡ taken b k rest
       → record { said = said; buffer = after; out = out′ } ≡ given b (consumed (view b) len) out

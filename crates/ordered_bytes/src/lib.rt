@@ -249,12 +249,10 @@ pub fn consume_unchecked(
             answer: ConsumeAnswer::Refused(Refusal::BufferShort),
         };
     }
-    let base = front::base_packet_number(o, marks);
-    let w = stream::read_bytes(o, len, buf, marks, lengths, store);
-    let state = front::take_packets(o, w.packets, w.rest_at, w.rest, marks, lengths, store);
+    let r = stream::read_bytes(o, len, buf, marks, lengths, store);
     Consumed {
-        state: state,
-        answer: stream::consume_answer(o.carry_len, len, w.packets, base, w.bytes),
+        state: front::take_packets(o, r.packets, r.rest_at, r.rest, marks, lengths, store),
+        answer: stream::consume_answer(o.carry_len, len, r.packets, r.base, r.bytes),
     }
 }
 
@@ -293,23 +291,18 @@ pub fn consume_bytes_unchecked(
     ensures { λ r. ⌜ record { said = consumedBytesSays (r .answer); buffer = bufferOf (r .state) (now (marks .exit)) (now (lengths .exit)) (now (store .exit)); out = now (buf .exit); list = now (list .exit) } ≡ consumingBytes (bufferOf o (now (marks .entry)) (now (lengths .entry)) (now (store .entry))) limit (now (buf .entry)) (now (list .entry)) ⌝ }
 {
     let p = pieces::count_pieces(o, limit, marks, lengths, store);
-    if buf.len() < p.bytes {
-        return ConsumedBytes {
+    let answer = pieces::consume_bytes_answer(p, buf.len(), list.len());
+    match answer {
+        ConsumeBytesAnswer::Refused(_) => ConsumedBytes {
             state: o,
-            answer: ConsumeBytesAnswer::Refused(Refusal::BufferShort),
-        };
+            answer: answer,
+        },
+        ConsumeBytesAnswer::Given(_, _) => {
+            pieces::copy_pieces(o, p.packets, buf, list, marks, lengths, store);
+            ConsumedBytes {
+                state: front::take_packets(o, p.packets, 0, 0, marks, lengths, store),
+                answer: answer,
+            }
+        }
     }
-    if list.len() < p.pieces {
-        return ConsumedBytes {
-            state: o,
-            answer: ConsumeBytesAnswer::Refused(Refusal::BufferShort),
-        };
-    }
-    if p.pieces == 0 {
-        return ConsumedBytes {
-            state: o,
-            answer: ConsumeBytesAnswer::Refused(Refusal::Empty),
-        };
-    }
-    pieces::give_pieces(o, p, buf, list, marks, lengths, store)
 }

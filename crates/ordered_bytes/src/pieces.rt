@@ -3,20 +3,20 @@
 // Proved: the pieces counted and copied, their lengths and the answer are the definition's.
 ghost use mathlib.Core.Path.{_≡_};
 ghost use mathlib.Core.Bool.{true, cond};
-ghost use mathlib.Core.List.{[], map, _++_, flatten};
+ghost use mathlib.Core.List.{[], _∷_, map, _++_, flatten};
 ghost use Prim.Native.Nat.{_+_, _-_, _≤_};
 ghost use lib.ListN.{length, set};
 ghost use lib.Seq.{paste};
-ghost use lib.Dec.{eqb};
-ghost use Rattle.refusal.specs.Said.{answers};
+ghost use lib.Dec.{ltb, eqb};
+ghost use Rattle.refusal.specs.Said.{answers, refuses, checks};
 ghost use Rattle.ordered_bytes.specs.Receiver.{payloads, carryPiece, takenPayloads, pieces, base};
-ghost use Rattle.ordered_bytes.specs.Buffer.{bufferOf, view, wellFormed, taken};
-ghost use Rattle.ordered_bytes.specs.Calls.{PieceConsumption, consumedBytesSays};
+ghost use Rattle.ordered_bytes.specs.Buffer.{bufferOf, view, wellFormed};
+ghost use Rattle.ordered_bytes.specs.Calls.{consumedBytesSays};
 use crate::ConsumeBytesAnswer;
 use crate::ConsumeResult;
-use crate::ConsumedBytes;
 use crate::OrderedBytes;
 use crate::front;
+use refusal::Refusal;
 
 // Payloads of held packets from the front on, and their bytes.
 struct Payloads {
@@ -24,11 +24,12 @@ struct Payloads {
     bytes: usize,
 }
 
-// What a read takes: packets, pieces and bytes.
+// What a read takes: packets, pieces and bytes, and the base that it answers.
 pub struct Pieces {
     pub packets: usize,
     pub pieces: usize,
     pub bytes: usize,
+    pub base: u64,
 }
 
 // "carry-over is one piece", and a length of 0 means none.
@@ -83,6 +84,7 @@ pub fn count_pieces(
     ensures { λ r. ⌜ r .packets ≡ length (takenPayloads (view (bufferOf o (now (marks .entry)) (now (lengths .entry)) (now (store .entry)))) limit) ⌝ }
     ensures { λ r. ⌜ r .pieces ≡ length (pieces (view (bufferOf o (now (marks .entry)) (now (lengths .entry)) (now (store .entry)))) limit) ⌝ }
     ensures { λ r. ⌜ r .bytes ≡ length (flatten (pieces (view (bufferOf o (now (marks .entry)) (now (lengths .entry)) (now (store .entry)))) limit)) ⌝ }
+    ensures { λ r. ⌜ r .base ≡ base (view (bufferOf o (now (marks .entry)) (now (lengths .entry)) (now (store .entry)))) ⌝ }
 {
     let first = carry_pieces(o.carry_len);
     let p = count_payloads(o, saturating_sub(limit, first), marks, lengths, store);
@@ -90,7 +92,31 @@ pub fn count_pieces(
         packets: p.packets,
         pieces: first + p.packets,
         bytes: o.carry_len + p.bytes,
+        base: front::base_packet_number(o, marks),
     }
+}
+
+// "10 if either is short", and "no piece: 8".
+pub fn consume_bytes_answer(p: Pieces, room: usize, cells: usize) -> ConsumeBytesAnswer
+    ensures { λ r. ⌜ consumedBytesSays r ≡ checks ((ltb room (p .bytes), 10) ∷ (ltb cells (p .pieces), 10) ∷ (eqb (p .pieces) 0, 8) ∷ []) refuses (answers ((p .packets, p .base, p .bytes), p .pieces)) ⌝ }
+{
+    if room < p.bytes {
+        return ConsumeBytesAnswer::Refused(Refusal::BufferShort);
+    }
+    if cells < p.pieces {
+        return ConsumeBytesAnswer::Refused(Refusal::BufferShort);
+    }
+    if p.pieces == 0 {
+        return ConsumeBytesAnswer::Refused(Refusal::Empty);
+    }
+    ConsumeBytesAnswer::Given(
+        ConsumeResult {
+            num_packets_consumed: p.packets,
+            base_packet_number: p.base,
+            bytes_consumed: p.bytes as u64,
+        },
+        p.pieces,
+    )
 }
 
 // Copies the payloads of packets held from the front on to `buf` from `at` on, and their lengths to `list` from `first` on.
@@ -166,36 +192,4 @@ pub fn copy_pieces(
         lengths,
         store,
     );
-}
-
-// Takes what was counted, with room for it: no refusal is left.
-pub fn give_pieces(
-    o: OrderedBytes,
-    p: Pieces,
-    buf: &mut [u8],
-    list: &mut [u32],
-    marks: &mut [bool],
-    lengths: &mut [u32],
-    store: &mut [u8],
-) -> ConsumedBytes
-    requires { ⌜ wellFormed (bufferOf o (now marks) (now lengths) (now store)) ≡ true ⌝ }
-    requires { ⌜ (length (payloads (p .packets) (view (bufferOf o (now marks) (now lengths) (now store)) .held)) ≡ p .packets) × (p .bytes ≤ length (now buf)) × (p .pieces ≤ length (now list)) ⌝ }
-    requires { ⌜ p .pieces ≡ length (carryPiece (view (bufferOf o (now marks) (now lengths) (now store)) .carry) ++ payloads (p .packets) (view (bufferOf o (now marks) (now lengths) (now store)) .held)) ⌝ }
-    requires { ⌜ p .bytes ≡ length (view (bufferOf o (now marks) (now lengths) (now store)) .carry ++ flatten (payloads (p .packets) (view (bufferOf o (now marks) (now lengths) (now store)) .held))) ⌝ }
-    ensures { λ r. ⌜ _≡_ {A = PieceConsumption} (record { said = consumedBytesSays (r .answer); buffer = bufferOf (r .state) (now (marks .exit)) (now (lengths .exit)) (now (store .exit)); out = now (buf .exit); list = now (list .exit) }) (record { said = answers ((p .packets, base (view (bufferOf o (now (marks .entry)) (now (lengths .entry)) (now (store .entry)))), p .bytes), p .pieces); buffer = taken (bufferOf o (now (marks .entry)) (now (lengths .entry)) (now (store .entry))) (p .packets) []; out = paste (now (buf .entry)) 0 (view (bufferOf o (now (marks .entry)) (now (lengths .entry)) (now (store .entry))) .carry ++ flatten (payloads (p .packets) (view (bufferOf o (now (marks .entry)) (now (lengths .entry)) (now (store .entry))) .held))) (p .bytes); list = paste (now (list .entry)) 0 (map length (carryPiece (view (bufferOf o (now (marks .entry)) (now (lengths .entry)) (now (store .entry))) .carry) ++ payloads (p .packets) (view (bufferOf o (now (marks .entry)) (now (lengths .entry)) (now (store .entry))) .held))) (p .pieces) }) ⌝ }
-{
-    let base = front::base_packet_number(o, marks);
-    copy_pieces(o, p.packets, buf, list, marks, lengths, store);
-    let state = front::take_packets(o, p.packets, 0, 0, marks, lengths, store);
-    ConsumedBytes {
-        state: state,
-        answer: ConsumeBytesAnswer::Given(
-            ConsumeResult {
-                num_packets_consumed: p.packets,
-                base_packet_number: base,
-                bytes_consumed: p.bytes as u64,
-            },
-            p.pieces,
-        ),
-    }
 }

@@ -14,11 +14,21 @@ ghost use Rattle.ordered_bytes.specs.Calls.{consumedSays};
 use crate::ConsumeAnswer;
 use crate::ConsumeResult;
 use crate::OrderedBytes;
+use crate::front;
 use refusal::Refusal;
 
 // What a walk took: packets, bytes given, and where in the store the rest of a split packet stands and how long it is.
 pub struct Walked {
     pub packets: usize,
+    pub bytes: usize,
+    pub rest_at: usize,
+    pub rest: usize,
+}
+
+// What a read copied: the same, with the carry-over's bytes, and the base that it answers.
+pub struct BytesRead {
+    pub packets: usize,
+    pub base: u64,
     pub bytes: usize,
     pub rest_at: usize,
     pub rest: usize,
@@ -72,7 +82,7 @@ fn walk_packets(
     }
 }
 
-// A carry-over longer than the length gives its first bytes; otherwise it goes whole, and held packets follow.
+// A carry-over longer than the length gives its first bytes, with "0 packets, base 0"; otherwise it goes whole, and held packets follow.
 pub fn read_bytes(
     o: OrderedBytes,
     len: usize,
@@ -80,9 +90,10 @@ pub fn read_bytes(
     marks: &[bool],
     lengths: &[u32],
     store: &[u8],
-) -> Walked
+) -> BytesRead
     requires { ⌜ (wellFormed (bufferOf o (now marks) (now lengths) (now store)) ≡ true) × (len ≤ length (now buf)) ⌝ }
     ensures { λ r. ⌜ r .packets ≡ consumed (view (bufferOf o (now (marks .entry)) (now (lengths .entry)) (now (store .entry)))) len .packets ⌝ }
+    ensures { λ r. ⌜ r .base ≡ consumed (view (bufferOf o (now (marks .entry)) (now (lengths .entry)) (now (store .entry)))) len .base ⌝ }
     ensures { λ r. ⌜ r .bytes ≡ length (consumed (view (bufferOf o (now (marks .entry)) (now (lengths .entry)) (now (store .entry)))) len .bytes) ⌝ }
     ensures { λ r. ⌜ now (buf .exit) ≡ paste (now (buf .entry)) 0 (consumed (view (bufferOf o (now (marks .entry)) (now (lengths .entry)) (now (store .entry)))) len .bytes) (r .bytes) ⌝ }
     ensures { λ r. ⌜ take (r .rest) (drop (r .«rest_at») (now (store .entry))) ≡ consumed (view (bufferOf o (now (marks .entry)) (now (lengths .entry)) (now (store .entry)))) len .carry ⌝ }
@@ -92,23 +103,25 @@ pub fn read_bytes(
     let carry_at = marks.len() * o.slot_width;
     parts::copy_part(store, carry_at, smaller(carry_len, len), buf, 0);
     if len < carry_len {
-        return Walked {
+        return BytesRead {
             packets: 0,
+            base: 0,
             bytes: len,
             rest_at: carry_at + len,
             rest: carry_len - len,
         };
     }
     let w = walk_packets(o, len - carry_len, buf, carry_len, marks, lengths, store);
-    Walked {
+    BytesRead {
         packets: w.packets,
+        base: front::base_packet_number(o, marks),
         bytes: carry_len + w.bytes,
         rest_at: w.rest_at,
         rest: w.rest,
     }
 }
 
-// "A carry-over longer than the length .. answers (0 packets, base 0, length)", and "if no byte was given: 8". The one place that decides it.
+// "If no byte was given: 8", but a carry-over longer than the length answers, also for length 0. The one place that decides it.
 pub fn consume_answer(
     carry_len: usize,
     len: usize,
@@ -116,12 +129,12 @@ pub fn consume_answer(
     base: u64,
     bytes: usize,
 ) -> ConsumeAnswer
-    ensures { λ r. ⌜ consumedSays r ≡ cond (ltb len «carry_len») (answers (packets, 0, bytes)) (cond (eqb bytes 0) (refuses 8) (answers (packets, base, bytes))) ⌝ }
+    ensures { λ r. ⌜ consumedSays r ≡ cond (ltb len «carry_len») (answers (packets, base, bytes)) (cond (eqb bytes 0) (refuses 8) (answers (packets, base, bytes))) ⌝ }
 {
     if len < carry_len {
         return ConsumeAnswer::Given(ConsumeResult {
             num_packets_consumed: packets,
-            base_packet_number: 0,
+            base_packet_number: base,
             bytes_consumed: bytes as u64,
         });
     }

@@ -1,5 +1,4 @@
 -- `ordered_bytes::consume_unchecked` meets its contract. Assumes nothing.
-use mathlib.Core.Path.{sym, _∙_}
 use native.Mathlib.Omega.{arith}
 use borrow.Author.Needs.{needs}
 use borrow.Author.Tests.{lt-ltb, le-ltb}
@@ -7,7 +6,6 @@ use Rattle.ordered_bytes.specs.Buffer.{Buffer, bufferOf}
 use Rattle.ordered_bytes.specs.Calls.{consuming}
 use Rattle.ordered_bytes.proofs.WellFormed.{Good, good}
 use Rattle.ordered_bytes.proofs.Kept.{consume-fits}
-use Rattle.ordered_bytes.proofs.Places.{base-by-marks}
 use Rattle.ordered_bytes.proofs.Given.{consumed-fits, read-given}
 use Rattle.ordered_bytes.proofs.consume_unchecked.Statement.{statement}
 use Rattle.ordered_bytes.proofs.consume_unchecked.Tie as tie
@@ -19,7 +17,7 @@ facts : (s : tie.Start) → Good (entry s)
 facts s = good (s .pre)
 
 abbrev room : tie.After-read-bytes → tie.Else1
-room c = c .before .before .before .before .before .before .before
+room c = c .before .before .before .before .before
 
 abbrev start : tie.Else1 → tie.Start
 start c = c .before .before .before .before .before
@@ -27,9 +25,6 @@ start c = c .before .before .before .before .before
 returns : tie.Need-returns
 unfolding consuming
 returns c = let s = c .before .before .before .before .before in simp (s .pre, lt-ltb _ _ (c .if1 .taken))
-
-base-packet-number-requires : tie.Need-base-packet-number-requires
-base-packet-number-requires c κs = facts (start (c .before)) .front-n
 
 read-bytes-requires : tie.Need-read-bytes-requires
 read-bytes-requires c κs = search needs
@@ -41,7 +36,7 @@ take-packets-requires c κs =
     let e = read .read-bytes .ensures in
     let fits = consume-fits (facts s) (s .args .len) .0 in
     let numbers = consumed-fits (facts s) (s .args .len) (omega (arith, s .good)) in
-    (s .pre, (omega (arith, e .0), omega (arith, e .0), e .1 .1 .1 .1 .0, e .1 .1 .1 .1 .1))
+    (s .pre, (omega (arith, e .0), omega (arith, e .0), e .1 .1 .1 .1 .1 .0, e .1 .1 .1 .1 .1 .1))
 
 consume-answer-requires : tie.Need-consume-answer-requires
 consume-answer-requires c κs = search needs
@@ -65,16 +60,14 @@ returns-2 c =
     let read = left .before .before .before .before .before .before in
     let s = start (room read) in
     let e = read .read-bytes .ensures in
-    let based = read .before .before .before .before .before .base-packet-number .ensures ∙ sym (base-by-marks (facts s)) in
     simp (s .pre, le-ltb _ _ (room read .if1 .left))
-    (read-given (facts s) (s .args .len) (s .args .buf .now) (e .0) (e .1 .0) (e .1 .1 .1 .0) based (c .consume-answer .ensures) (e .1 .1 .0) (left .take-packets .ensures))
+    (read-given (facts s) (s .args .len) (s .args .buf .now) (e .0) (e .1 .1 .0) (e .1 .1 .1 .1 .0) (e .1 .0) (c .consume-answer .ensures) (e .1 .1 .1 .0) (left .take-packets .ensures))
 
 pub consume-unchecked-spec : {M : Type 1} → statement M
 consume-unchecked-spec =
     tie.close
     (tie.spec
     returns
-    base-packet-number-requires
     read-bytes-requires
     take-packets-requires
     consume-answer-requires

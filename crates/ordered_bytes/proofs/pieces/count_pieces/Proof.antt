@@ -1,4 +1,5 @@
 -- `ordered_bytes::pieces::count_pieces` meets its contract. Assumes nothing.
+use mathlib.Core.Path.{sym, _∙_}
 use native.Mathlib.Omega.{arith}
 use lib.Dec.{eqb}
 use borrow.Author.Needs.{needs}
@@ -6,6 +7,7 @@ use Rattle.ordered_bytes.specs.Buffer.{Buffer, bufferOf, view}
 use Rattle.ordered_bytes.proofs.WellFormed.{Good, good}
 use Rattle.ordered_bytes.proofs.View.{length-held}
 use Rattle.ordered_bytes.proofs.Walk.{payloads-most}
+use Rattle.ordered_bytes.proofs.Places.{base-by-marks}
 use Rattle.ordered_bytes.proofs.Gathered.{at-most-one, pieces-counted}
 use Rattle.ordered_bytes.proofs.pieces.count_pieces.Statement.{statement}
 use Rattle.ordered_bytes.proofs.pieces.count_pieces.Tie as tie
@@ -39,13 +41,17 @@ add-t9 c =
     let s = counted .before .before .before .before .before .before in
     omega (arith, facts s .carry-w, facts s .shape .small-width, counted .count-payloads .ensures .1 .1)
 
+base-packet-number-requires : tie.Need-base-packet-number-requires
+base-packet-number-requires c κs = facts (c .before .before .before .before .before .before .before .before .before) .front-n
+
 returns : tie.Need-returns
 returns c =
-    let counted = c .before .before .before in
+    let counted = c .before .before .before .before in
     let less = counted .before in
     let first = less .before in
     let s = first .before .before .before .before in
-    pieces-counted (facts s) (s .args .limit) (first .carry-pieces .ensures) (less .saturating-sub .ensures) (counted .count-payloads .ensures .0) (counted .count-payloads .ensures .1 .0)
+    let p = pieces-counted (facts s) (s .args .limit) (first .carry-pieces .ensures) (less .saturating-sub .ensures) (counted .count-payloads .ensures .0) (counted .count-payloads .ensures .1 .0) in
+    (p .0, (p .1 .0, (p .1 .1, c .base-packet-number .ensures ∙ sym (base-by-marks (facts s)))))
 
 pub count-pieces-spec : {M : Type 1} → statement M
 count-pieces-spec =
@@ -56,4 +62,5 @@ count-pieces-spec =
     count-payloads-requires
     add-t8
     add-t9
+    base-packet-number-requires
     returns)

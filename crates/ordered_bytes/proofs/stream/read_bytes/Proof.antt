@@ -1,10 +1,12 @@
 -- `ordered_bytes::stream::read_bytes` meets its contract. Assumes nothing.
 use Prim.Native.Nat.{_-_}
+use mathlib.Core.Path.{sym, _∙_}
 use native.Mathlib.Omega.{arith}
 use borrow.Author.Needs.{needs}
 use Rattle.ordered_bytes.specs.Buffer.{Buffer, bufferOf, view}
 use Rattle.ordered_bytes.proofs.WellFormed.{Good, good}
 use Rattle.ordered_bytes.proofs.Walk.{walked}
+use Rattle.ordered_bytes.proofs.Places.{base-by-marks}
 use Rattle.ordered_bytes.proofs.Given.{carry-in, part-read, whole-read}
 use Rattle.ordered_bytes.proofs.stream.read_bytes.Statement.{statement}
 use Rattle.ordered_bytes.proofs.stream.read_bytes.Tie as tie
@@ -49,9 +51,12 @@ returns c =
 walk-packets-requires : tie.Need-walk-packets-requires
 walk-packets-requires c κs = search needs
 
+base-packet-number-requires : tie.Need-base-packet-number-requires
+base-packet-number-requires c κs = facts (start (c .before .before .before .before .before .before .before)) .front-n
+
 add-t10 : tie.Need-add-t10
 add-t10 c =
-    let gave = c .before .before .before in
+    let gave = c .before .before .before .before in
     let s = start (gave .before .before .before .before .before) in
     let few = walked (s .args .len - s .args .o .«carry_len») (view (entry s) .held) .gave in
     omega (arith, gave .walk-packets .ensures .1 .0, gave .before .before .if1 .left, s .pre .1, s .good)
@@ -61,11 +66,12 @@ same-length-2 c = search needs
 
 returns-2 : tie.Need-returns-2
 returns-2 c =
-    let gave = c .before .before .before in
+    let gave = c .before .before .before .before in
     let whole = gave .before .before in
     let copied = whole .before .before .before in
     let s = start copied in
     whole-read (facts s) (s .args .len) (s .args .buf .now) (gave .walk-packets .result .«rest_at») (gave .walk-packets .result .rest) (whole .if1 .left) (s .pre .1) (copied .before .before .smaller .ensures) (copied .copy-part .ensures) (gave .walk-packets .ensures)
+    (c .before .base-packet-number .ensures ∙ sym (base-by-marks (facts s)))
 
 pub read-bytes-spec : {M : Type 1} → statement M
 read-bytes-spec =
@@ -79,6 +85,7 @@ read-bytes-spec =
     same-length
     returns
     walk-packets-requires
+    base-packet-number-requires
     add-t10
     same-length-2
     returns-2)
