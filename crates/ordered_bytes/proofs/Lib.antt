@@ -12,3 +12,4 @@ pub mod Taken
 pub mod Given
 pub mod Gathered
 pub mod Accept
+pub mod Malformed

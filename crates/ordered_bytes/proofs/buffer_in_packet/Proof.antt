@@ -1,10 +1,15 @@
 -- `ordered_bytes::buffer_in_packet` meets its contract. Assumes nothing.
-use mathlib.Core.Path.{sym, _∙_}
 use borrow.Author.Needs.{needs}
-use borrow.Author.Tests.{not-true, not-false}
-use Rattle.ordered_bytes.specs.Calls.{accepting}
+use Rattle.ordered_bytes.specs.Buffer.{Buffer, bufferOf}
+use Rattle.ordered_bytes.proofs.Malformed.{tested-well, accepting-malformed}
 use Rattle.ordered_bytes.proofs.buffer_in_packet.Statement.{statement}
 use Rattle.ordered_bytes.proofs.buffer_in_packet.Tie as tie
+
+abbrev start : tie.After-well-formed → tie.Start
+start c = c .before .before .before .before .before .before .before .before
+
+abbrev entry : tie.Start → Buffer
+entry s = bufferOf (s .args .o) (s .args .marks .now) (s .args .lengths .now) (s .args .store .now)
 
 well-formed-requires : tie.Need-well-formed-requires
 well-formed-requires c κs = search needs
@@ -19,13 +24,12 @@ same-length-3 : tie.Need-same-length-3
 same-length-3 c = search needs
 
 returns : tie.Need-returns
-unfolding accepting
-returns c = simp (sym (c .before .well-formed .ensures) ∙ not-true _ (c .if1 .taken))
+returns c = let s = start (c .before) in accepting-malformed (entry s) (c .before .well-formed .ensures) (c .if1 .taken) (s .args .n) (s .args .payload .now)
 
 buffer-in-packet-unchecked-requires : tie.Need-buffer-in-packet-unchecked-requires
 buffer-in-packet-unchecked-requires c κs =
     let past = c .before .before .before in
-    sym (past .before .well-formed .ensures) ∙ not-false _ (past .if1 .left)
+    tested-well (entry (start (past .before))) (past .before .well-formed .ensures) (past .if1 .left)
 
 same-length-4 : tie.Need-same-length-4
 same-length-4 c = search needs
@@ -37,7 +41,7 @@ same-length-6 : tie.Need-same-length-6
 same-length-6 c = search needs
 
 returns-2 : tie.Need-returns-2
-returns-2 c = search needs
+returns-2 c = c .before .before .before .before .before .before .buffer-in-packet-unchecked .ensures
 
 pub buffer-in-packet-spec : {M : Type 1} → statement M
 buffer-in-packet-spec =

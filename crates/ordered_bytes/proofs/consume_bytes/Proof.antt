@@ -1,10 +1,15 @@
 -- `ordered_bytes::consume_bytes` meets its contract. Assumes nothing.
-use mathlib.Core.Path.{sym, _∙_}
 use borrow.Author.Needs.{needs}
-use borrow.Author.Tests.{not-true, not-false}
-use Rattle.ordered_bytes.specs.Calls.{consumingBytes}
+use Rattle.ordered_bytes.specs.Buffer.{Buffer, bufferOf}
+use Rattle.ordered_bytes.proofs.Malformed.{tested-well, consuming-bytes-malformed}
 use Rattle.ordered_bytes.proofs.consume_bytes.Statement.{statement}
 use Rattle.ordered_bytes.proofs.consume_bytes.Tie as tie
+
+abbrev start : tie.After-well-formed → tie.Start
+start c = c .before .before .before .before .before .before .before .before .before
+
+abbrev entry : tie.Start → Buffer
+entry s = bufferOf (s .args .o) (s .args .marks .now) (s .args .lengths .now) (s .args .store .now)
 
 well-formed-requires : tie.Need-well-formed-requires
 well-formed-requires c κs = search needs
@@ -19,13 +24,12 @@ same-length-3 : tie.Need-same-length-3
 same-length-3 c = search needs
 
 returns : tie.Need-returns
-unfolding consumingBytes
-returns c = simp (sym (c .before .well-formed .ensures) ∙ not-true _ (c .if1 .taken))
+returns c = let s = start (c .before) in consuming-bytes-malformed (entry s) (c .before .well-formed .ensures) (c .if1 .taken) (s .args .limit) (s .args .buf .now) (s .args .list .now)
 
 consume-bytes-unchecked-requires : tie.Need-consume-bytes-unchecked-requires
 consume-bytes-unchecked-requires c κs =
     let past = c .before .before .before .before .before in
-    sym (past .before .well-formed .ensures) ∙ not-false _ (past .if1 .left)
+    tested-well (entry (start (past .before))) (past .before .well-formed .ensures) (past .if1 .left)
 
 same-length-4 : tie.Need-same-length-4
 same-length-4 c = search needs
@@ -43,7 +47,7 @@ same-length-8 : tie.Need-same-length-8
 same-length-8 c = search needs
 
 returns-2 : tie.Need-returns-2
-returns-2 c = search needs
+returns-2 c = c .before .before .before .before .before .before .before .before .before .before .consume-bytes-unchecked .ensures
 
 pub consume-bytes-spec : {M : Type 1} → statement M
 consume-bytes-spec =
