@@ -74,3 +74,13 @@ pub fn end_line() {
 pub fn add_byte(sum: u64, byte: u8) -> u64 {
     sum % 1_000_000_007 * 257 + byte as u64 + 1
 }
+
+pub fn sum_of(output: &[u8]) -> u64 {
+    let mut sum = 0;
+    let mut i = 0;
+    while i < output.len() {
+        sum = add_byte(sum, output[i]);
+        i += 1;
+    }
+    sum
+}

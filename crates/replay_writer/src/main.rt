@@ -18,16 +18,6 @@ const OUT_LEN: usize = 16384;
 // What output bytes hold before a packing.
 const BEFORE: u8 = 9;
 
-fn sum_of(bytes: &[u8]) -> u64 {
-    let mut sum = 0;
-    let mut i = 0;
-    while i < bytes.len() {
-        sum = recorded::add_byte(sum, bytes[i]);
-        i += 1;
-    }
-    sum
-}
-
 fn queued_byte(at: usize) -> u8 {
     ((at % 256 * 31 + at / 256 % 256) % 256) as u8
 }
@@ -90,7 +80,7 @@ fn pack_into(
         DataAnswer::Packed(p) => print_packed(p),
         DataAnswer::Refused(r) => recorded::begin_line(refusal::number(r) as u64),
     }
-    recorded::print_number(sum_of(out));
+    recorded::print_number(recorded::sum_of(out));
 }
 
 fn pack(bytes: &[u8]) {

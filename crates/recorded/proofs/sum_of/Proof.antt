@@ -1,15 +1,15 @@
--- `replay_writer::sum_of` is safe and ends: the measure is the number of bytes left. Assumes nothing.
+-- `recorded::sum_of` is safe and ends: the measure is the number of bytes left. Assumes nothing.
 use Prim.Native.Nat.{_-_, _≤_}
 use lib.ListN.{length}
 use borrow.Author.Needs.{needs}
-use Rattle.replay_writer.proofs.sum_of.Statement.{statement}
-use Rattle.replay_writer.proofs.sum_of.Tie as tie
+use Rattle.recorded.proofs.sum_of.Statement.{statement}
+use Rattle.recorded.proofs.sum_of.Tie as tie
 
 abbrev Inv-loop : tie.InvT-loop
-Inv-loop bytes sum₀ i₀ sum i = i ≤ length bytes
+Inv-loop output sum₀ i₀ sum i = i ≤ length output
 
 abbrev μ-loop : tie.MeasureT-loop
-μ-loop bytes sum₀ i₀ sum i = length bytes - i
+μ-loop output sum₀ i₀ sum i = length output - i
 
 loop-holds : tie.Need-loop-holds Inv-loop μ-loop
 loop-holds c = search needs
