@@ -21,7 +21,7 @@ use std::{env, fs, process};
 /// Writes or checks the record of one component; answers whether it is as it should be.
 fn keep<C: Component>(check: bool) -> bool {
     let told = record::<C>();
-    let program = format!("{}/replay_{}", C::FOLDER, C::NAME);
+    let program = format!("crates/replay_{}", C::NAME);
     let folder = Path::new(env!("CARGO_MANIFEST_DIR"))
         .join("..")
         .join(&program);

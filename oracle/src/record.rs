@@ -48,11 +48,8 @@ impl Question {
 
 /// What is asked of one component, and how the Rust answers it.
 pub trait Component: Default {
-    /// The program that replays it is FOLDER/replay_NAME.
+    /// The program that replays it is crates/replay_NAME.
     const NAME: &'static str;
-
-    /// Where the gate runs it; oracle/unproved for a program that is run outside the gate.
-    const FOLDER: &'static str = "crates";
 
     /// How many random questions follow the cases.
     const RANDOM: usize;

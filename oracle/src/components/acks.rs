@@ -109,7 +109,6 @@ pub struct Acks;
 
 impl Component for Acks {
     const NAME: &'static str = "acks";
-    const FOLDER: &'static str = "oracle/unproved";
     const RANDOM: usize = 500;
 
     fn cases() -> Vec<Question> {

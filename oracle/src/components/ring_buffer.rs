@@ -49,7 +49,6 @@ fn found(record: Option<Record>) -> Vec<u64> {
 
 impl Component for Ring {
     const NAME: &'static str = "ring_buffer";
-    const FOLDER: &'static str = "oracle/unproved";
     const RANDOM: usize = 1500;
 
     /// Every list of four changes, at each capacity from 0 to 3, and each test after it.
