@@ -3,14 +3,13 @@ use mathlib.Core.Path.{_≡_, ap, _∙_}
 use Prim.Native.Nat.{ℕ}
 use mathlib.Core.Bool.{Bool}
 use mathlib.Core.List.{List}
-use Rattle.refusal.specs.Said.{Said}
+use Rattle.refusal.specs.Said.{Said, refusalIn}
 use Rattle.ordered_bytes.specs.declared.OrderedBytes.{OrderedBytes}
 use Rattle.ordered_bytes.specs.Buffer.{Buffer, bufferOf}
 use Rattle.ordered_bytes.specs.Calls.{Creation, Acceptance, Consumption, PieceConsumption}
 use Rattle.flat.specs.declared.buffer.Started.{Started}
 use Rattle.flat.specs.declared.buffer.Consumed.{Consumed}
 use Rattle.flat.specs.declared.buffer.ConsumedBytes.{ConsumedBytes}
-use Rattle.flat.specs.Answers.{refusalIn}
 use Rattle.flat.specs.Buffers.{noBuffer, startedOf, consumedOf, consumedBytesOf, flatCreation, flatAcceptance, flatConsumption, flatPieces}
 
 pub flat-creation : {r : Started} {s : Said OrderedBytes} {m : List Bool} {l : List ℕ} {d : Creation} →

@@ -8,12 +8,12 @@ ghost use mathlib.Core.Path.{_≡_};
 ghost use mathlib.Core.Bool.{Bool};
 ghost use mathlib.Core.List.{List};
 ghost use Prim.Native.Nat.{ℕ};
+ghost use Rattle.refusal.specs.Said.{refusalIn};
 ghost use Rattle.ordered_bytes.specs.Buffer.{Buffer, bufferOf};
 ghost use Rattle.ordered_bytes.specs.Calls.{creating, starting, accepting, peeking, consuming, consumingBytes};
 ghost use Rattle.flat.specs.declared.buffer.Started.{Started};
 ghost use Rattle.flat.specs.declared.buffer.Consumed.{Consumed};
 ghost use Rattle.flat.specs.declared.buffer.ConsumedBytes.{ConsumedBytes};
-ghost use Rattle.flat.specs.Answers.{refusalIn};
 ghost use Rattle.flat.specs.Buffers.{startedOf, flatCreation, flatAcceptance, flatConsumption, flatPieces};
 
 #[no_mangle]

@@ -2,12 +2,12 @@
 use Prim.Native.Nat.{ℕ}
 use mathlib.Core.List.{List}
 use mathlib.Core.Option.{Option, none, some}
-use Rattle.refusal.specs.Said.{Said}
+use Rattle.refusal.specs.Said.{Said, refusalIn}
 use Rattle.window.specs.Window.{Outcome}
 use Rattle.window.specs.declared.SlidingWindow.{SlidingWindow}
 use Rattle.flat.specs.declared.acked.Inserted.{Inserted}
 use Rattle.flat.specs.declared.acked.Run.{Run}
-use Rattle.flat.specs.Answers.{refusalIn, valueOr}
+use Rattle.flat.specs.Answers.{valueOr}
 
 abbrev pub insertedOf : Said Unit → SlidingWindow → Inserted
 insertedOf s w = record { window = w; refusal = refusalIn s }

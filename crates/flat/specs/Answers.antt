@@ -2,12 +2,6 @@
 use Prim.Native.Nat.{ℕ}
 use Rattle.refusal.specs.Said.{Said, answers, refuses, refusesAt}
 
--- the refusal's number, or 0 for none
-abbrev pub refusalIn : {A : Type 0} → Said A → ℕ
-refusalIn (answers a) = 0
-refusalIn (refuses n) = n
-refusalIn (refusesAt n at) = n
-
 -- the cursor, or 0 where none is given
 abbrev pub cursorIn : {A : Type 0} → Said A → ℕ
 cursorIn (answers a) = 0

@@ -2,14 +2,14 @@
 use Prim.Native.Nat.{ℕ}
 use mathlib.Core.Bool.{Bool}
 use mathlib.Core.List.{List}
-use Rattle.refusal.specs.Said.{Said}
+use Rattle.refusal.specs.Said.{Said, refusalIn}
 use Rattle.ordered_bytes.specs.declared.OrderedBytes.{OrderedBytes}
 use Rattle.ordered_bytes.specs.Buffer.{Buffer}
 use Rattle.ordered_bytes.specs.Calls.{Creation, Acceptance, Consumption, PieceConsumption}
 use Rattle.flat.specs.declared.buffer.Started.{Started}
 use Rattle.flat.specs.declared.buffer.Consumed.{Consumed}
 use Rattle.flat.specs.declared.buffer.ConsumedBytes.{ConsumedBytes}
-use Rattle.flat.specs.Answers.{refusalIn, valueOr}
+use Rattle.flat.specs.Answers.{valueOr}
 
 -- all 0: there is no buffer to go on with
 abbrev pub noBuffer : OrderedBytes

@@ -1,13 +1,13 @@
 -- A received datagram's answers as a host has them.
 use Prim.Native.Nat.{ℕ}
 use mathlib.Core.List.{List}
-use Rattle.refusal.specs.Said.{Said}
+use Rattle.refusal.specs.Said.{Said, refusalIn}
 use Rattle.ordered_bytes.specs.Buffer.{Buffer}
 use Rattle.window.specs.declared.SlidingWindow.{SlidingWindow}
 use Rattle.receive.specs.Datagram.{Acks, Reception}
 use Rattle.flat.specs.declared.packets.Parsed.{Parsed}
 use Rattle.flat.specs.declared.datagrams.AcksReceived.{AcksReceived}
-use Rattle.flat.specs.Answers.{refusalIn, cursorIn, valueOr}
+use Rattle.flat.specs.Answers.{cursorIn, valueOr}
 use Rattle.flat.specs.Packets.{parsedOf}
 
 -- the listing's answer beside the window to go on with

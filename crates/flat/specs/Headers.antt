@@ -2,13 +2,13 @@
 use Prim.Native.Nat.{ℕ}
 use mathlib.Core.Bool.{false, not}
 use mathlib.Core.List.{[], _∷_}
-use Rattle.refusal.specs.Said.{Said, refuses, checks}
+use Rattle.refusal.specs.Said.{Said, refuses, refusalIn, checks}
 use Rattle.header.specs.Types.{typeNumber, typeOf, rowOf}
 use Rattle.header.specs.declared.BluefinHeader.{BluefinHeader}
 use Rattle.flat.specs.declared.headers.Header.{Header}
 use Rattle.flat.specs.declared.headers.Written.{Written}
 use Rattle.flat.specs.declared.headers.HeaderRead.{HeaderRead}
-use Rattle.flat.specs.Answers.{refusalIn, cursorIn, valueOr}
+use Rattle.flat.specs.Answers.{cursorIn, valueOr}
 
 -- the header that the numbers mean; a type number above 6 stands for the last type: writing refuses it first, and the handshake tests ask for earlier ones
 abbrev pub headerIn : Header → BluefinHeader

@@ -3,13 +3,13 @@ use Prim.Native.Nat.{ℕ}
 use mathlib.Core.Bool.{Bool, true, false}
 use mathlib.Core.List.{List}
 use mathlib.Core.Option.{Option, none, some}
-use Rattle.refusal.specs.Said.{Said}
+use Rattle.refusal.specs.Said.{Said, refusalIn}
 use Rattle.ring_buffer.specs.Ring.{Outcome, blank}
 use Rattle.ring_buffer.specs.declared.AckData.{AckData}
 use Rattle.ring_buffer.specs.declared.RingBuffer.{RingBuffer}
 use Rattle.writer.specs.Acks as acks
 use Rattle.writer.specs.declared.acks.AcksPacked.{AcksPacked as Packed}
-use Rattle.flat.specs.Answers.{refusalIn, valueOr}
+use Rattle.flat.specs.Answers.{valueOr}
 use Rattle.flat.specs.declared.ring.Pushed.{Pushed}
 use Rattle.flat.specs.declared.ring.Popped.{Popped}
 use Rattle.flat.specs.declared.ring.Cleared.{Cleared}

@@ -1,10 +1,10 @@
 -- The answers of packing and of reserving a FIN's number as a host has them.
 use Prim.Native.Nat.{ℕ}
-use Rattle.refusal.specs.Said.{Said}
+use Rattle.refusal.specs.Said.{Said, refusalIn}
 use Rattle.writer.specs.declared.DataPacked as packed
 use Rattle.flat.specs.declared.sending.DataPacked.{DataPacked}
 use Rattle.flat.specs.declared.sending.Reserved.{Reserved}
-use Rattle.flat.specs.Answers.{refusalIn, valueOr}
+use Rattle.flat.specs.Answers.{valueOr}
 
 abbrev pub dataPackedOf : Said packed.DataPacked → DataPacked
 dataPackedOf s = record {

@@ -5,7 +5,7 @@ use mathlib.Core.Path.{_≡_, refl, ap, ap₂, _∙_}
 use mathlib.Core.Bool.{true}
 use mathlib.Core.List.{List}
 use lib.ListN.{take, drop}
-use Rattle.refusal.specs.Said.{Said}
+use Rattle.refusal.specs.Said.{Said, refusalIn}
 use Rattle.lists.specs.Numbers.{largest}
 use Rattle.parts.specs.BigEndian.{numberAt}
 use Rattle.header.specs.Header.{headerAt}
@@ -17,7 +17,7 @@ use Rattle.window.specs.Window.{Outcome, insertRange}
 use Rattle.window.specs.Window as window
 use Rattle.window.specs.declared.SlidingWindow.{SlidingWindow}
 use Rattle.window.proofs.Calls.{range-law}
-use Rattle.receive.specs.Datagram.{Acks, refusalIn, accepts, enters}
+use Rattle.receive.specs.Datagram.{Acks, accepts, enters}
 
 module _ (s : List ℕ) (at : ℕ) where
   number-at : numberAt s (at + 12) 8 ≡ headerAt s at .«packet_number»

@@ -9,12 +9,12 @@ use lib.ListN.{length, getD, set, drop, length-drop}
 use lib.Seq.{getD-drop, drop-drop}
 use lib.Dec.{eqb}
 use borrow.Author.Tests.{eq-eqb, ne-eqb}
-use Rattle.refusal.specs.Said.{Said}
+use Rattle.refusal.specs.Said.{Said, refusalIn}
 use Rattle.header.specs.Types.{typeNumber, typeOf}
 use Rattle.header.specs.Header.{typeAt, headerAt}
 use Rattle.packet.specs.Packet.{Packet}
 use Rattle.packet.specs.Datagram.{packetAt, listed}
-use Rattle.receive.specs.Datagram.{Progress, refusalIn, takes, takesAll}
+use Rattle.receive.specs.Datagram.{Progress, takes, takesAll}
 
 -- a number below 6 is a header's type exactly where it is the type number in its first byte
 type-is : (n k : ℕ) → k < 6 → eqb (typeNumber (typeOf n)) k ≡ eqb n k

@@ -8,7 +8,7 @@ use mathlib.Core.List.{List, [], _∷_}
 use native.Mathlib.Omega.{arith}
 use lib.ListN.{getD, set, length}
 use lib.Dec.{ltb, eqb}
-use Rattle.refusal.specs.Said.{Said, refuses}
+use Rattle.refusal.specs.Said.{Said, refuses, refusalIn}
 use Rattle.refusal.proofs.Checks.{Failed}
 use Rattle.lists.specs.Numbers.{largest}
 use Rattle.lists.proofs.Bytes.{Bytes}
@@ -26,7 +26,7 @@ use Rattle.window.specs.Window.{Outcome, insertRange}
 use Rattle.window.specs.Window as window
 use Rattle.window.specs.declared.SlidingWindow.{SlidingWindow}
 use Rattle.window.proofs.Calls as calls
-use Rattle.receive.specs.Datagram.{Progress, Reception, refusalIn, accepts, enters, takes, takesAll, takesDatagram, receiving, receivingAcks}
+use Rattle.receive.specs.Datagram.{Progress, Reception, accepts, enters, takes, takesAll, takesDatagram, receiving, receivingAcks}
 
 -- no number of the list is 12
 abbrev pub None12 : List ℕ → Type 0

@@ -5,8 +5,7 @@ use mathlib.Core.Bool.{Bool, not, cond}
 use mathlib.Core.List.{List, [], _∷_}
 use lib.ListN.{length, set}
 use lib.Dec.{ltb, eqb}
-use Rattle.refusal.specs.Said.{Said, refuses, refusesAt, checks}
-use Rattle.refusal.specs.Said as says
+use Rattle.refusal.specs.Said.{Said, refuses, refusalIn, checks}
 use Rattle.header.specs.Types.{typeNumber}
 use Rattle.packet.specs.Packet.{Packet}
 use Rattle.packet.specs.Datagram.{cellsIn, cellsWritten, parsesInto, listed}
@@ -40,12 +39,6 @@ enters a p =
 pub record Progress (S : Type 0) : Type 0 where
   pub state : S
   pub answers : List ℕ
-
--- 0, or the refusal's number
-abbrev pub refusalIn : Said Unit → ℕ
-refusalIn (says.answers u) = 0
-refusalIn (refuses r) = r
-refusalIn (refusesAt r at) = r
 
 -- the i-th packet: where it is of the type, the call is made, and the i-th number of the answers becomes what it answered
 abbrev pub takes : {S : Type 0} → ℕ → (S → Packet → Said Unit × S) → ℕ → Packet → Progress S → Progress S

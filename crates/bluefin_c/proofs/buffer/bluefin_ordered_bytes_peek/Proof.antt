@@ -1,7 +1,7 @@
 -- `bluefin_c::buffer::bluefin_ordered_bytes_peek` meets its contract. Assumes nothing.
 use mathlib.Core.Path.{ap, _∙_}
-use Rattle.flat.specs.Answers.{refusalIn}
 use borrow.Author.Needs.{needs}
+use Rattle.refusal.specs.Said.{refusalIn}
 use Rattle.bluefin_c.proofs.buffer.bluefin_ordered_bytes_peek.Statement.{statement}
 use Rattle.bluefin_c.proofs.buffer.bluefin_ordered_bytes_peek.Tie as tie
 
