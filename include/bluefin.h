@@ -323,6 +323,64 @@ bluefin_reserved bluefin_reserve_close_packet_num(uint64_t next_packet_num);
 bluefin_written bluefin_write_fin(uint32_t src_conn_id, uint32_t dst_conn_id, uint64_t packet_number, uint8_t *buf, size_t buf_len);
 bluefin_written bluefin_write_fin_ack(uint32_t src_conn_id, uint32_t dst_conn_id, uint64_t packet_number, uint8_t *buf, size_t buf_len);
 
+/* ---- the close record */
+
+enum {
+    BLUEFIN_ACTIVE = 0,
+    BLUEFIN_PEER_FIN_RECEIVED = 1,
+    BLUEFIN_LOCAL_FIN_SENT = 2,
+    BLUEFIN_CLOSED = 3
+};
+
+/*
+ * A connection's close record, by value: nothing is lent. A FIN's number counts only in states 1 and 2, and beside a flag that is true;
+ * elsewhere it is not looked at, and comes back as 0.
+ */
+typedef struct {
+    uint64_t state_fin;            /* the FIN's number in states 1 and 2 */
+    uint64_t pending_fin_ack_send; /* the FIN for which a FIN-ACK is owed */
+    uint64_t received_fin_ack_for; /* the FIN of the FIN-ACK recorded last */
+    uint8_t state;                 /* 0 to 3, as above */
+    bool is_pending;
+    bool is_received;
+    bool peer_fin_observed;
+} bluefin_close_record;
+
+typedef struct {
+    bluefin_close_record close;
+    uint8_t refusal;
+} bluefin_close_after;
+
+typedef struct {
+    bluefin_close_record close;
+    uint64_t number;
+    bool was_pending;
+    uint8_t refusal;
+} bluefin_fin_ack_taken;
+
+/* An active connection's record. The flag stays as it is given. */
+bluefin_close_record bluefin_close_new(bool peer_fin_observed);
+
+/* The record after each event. Refusal: 12 (a state above 3), with the record as it came. */
+bluefin_close_after bluefin_close_buffer_in_fin(bluefin_close_record c, uint64_t n);
+bluefin_close_after bluefin_close_buffer_in_fin_ack(bluefin_close_record c, uint64_t n);
+bluefin_close_after bluefin_close_record_local_fin_sent(bluefin_close_record c, uint64_t n);
+bluefin_close_after bluefin_close_mark_closed(bluefin_close_record c);
+
+/* Takes the FIN-ACK that is owed: its FIN's number where `was_pending`, else 0. Refusal: 12. */
+bluefin_fin_ack_taken bluefin_close_take_pending_fin_ack_send(bluefin_close_record c);
+
+/* ---- opening */
+
+enum {
+    BLUEFIN_PACK_LEADER = 0,
+    BLUEFIN_CLIENT = 1 /* every other number is some other host */
+};
+
+/* Whether a host of this kind takes the packet for a hello, or for a client's ack. Neither refuses: a type above 6 is no handshake type. */
+bool bluefin_is_hello_packet(uint8_t host, bluefin_header header);
+bool bluefin_is_client_ack_packet(uint8_t host, bluefin_header header);
+
 #ifdef __cplusplus
 }
 #endif
