@@ -1,20 +1,8 @@
 //! Asks the published Rust, and keeps its answers as stdin and stdout of the program that replays them, crates/replay_NAME.
 //! `cargo run` writes them; `cargo run -- --check` says whether they are what would be written.
 
-#![allow(dead_code, unused_imports)]
-
-mod components;
-mod core;
-#[cfg(test)]
-mod reached;
-mod record;
-mod utils;
-mod worker;
-
-// `net`, laid out by build.rs.
-include!(concat!(env!("OUT_DIR"), "/tree.rs"));
-
-use record::{record, Component};
+use oracle::components;
+use oracle::record::{record, Component};
 use std::path::Path;
 use std::{env, fs, process};
 

@@ -129,7 +129,7 @@ pub fn record<C: Component>() -> Record {
     for question in C::cases() {
         put(&mut rust, question);
     }
-    let mut rng = Xorshift::new();
+    let mut rng = Xorshift::default();
     for turn in 0..C::RANDOM {
         if turn % 250 == 0 {
             if let Some(question) = C::start(&mut rng) {
@@ -152,9 +152,19 @@ pub fn sum(bytes: &[u8]) -> u64 {
 /// Marsaglia's xorshift64*, from a fixed seed: the records are the same at every run.
 pub struct Xorshift(u64);
 
-impl Xorshift {
-    fn new() -> Self {
+impl Default for Xorshift {
+    fn default() -> Self {
         Xorshift(0x9e37_79b9_7f4a_7c15)
+    }
+}
+
+impl Xorshift {
+    /// From another seed.
+    pub fn seeded(seed: u64) -> Self {
+        let mut rng = Self::default();
+        rng.0 ^= seed.wrapping_mul(0xbf58_476d_1ce4_e5b9);
+        rng.0 = rng.0.max(1);
+        rng
     }
 
     pub fn next(&mut self) -> u64 {

@@ -9,7 +9,31 @@ pub mod writer {
     pub(crate) mod probe {
         use super::*;
 
-        pub(crate) fn consume_data_into(
+        /// Queued acks as the Rust holds them.
+        #[derive(Clone, Default)]
+        pub struct AckQueue(VecDeque<AckData>);
+
+        impl AckQueue {
+            pub fn push_back(&mut self, base_packet_num: u64, num_packets_consumed: usize) {
+                self.0.push_back(AckData {
+                    base_packet_num,
+                    num_packets_consumed,
+                });
+            }
+
+            #[inline]
+            pub fn consume_acks_into(&mut self, src: u32, dst: u32, bytes: &mut Vec<u8>) -> bool {
+                WriterHandler::consume_acks_into(&mut self.0, src, dst, bytes)
+            }
+
+            pub fn left(&self) -> VecDeque<(u64, usize)> {
+                let pair = |a: &AckData| (a.base_packet_num, a.num_packets_consumed);
+                self.0.iter().map(pair).collect()
+            }
+        }
+
+        #[inline]
+        pub fn consume_data_into(
             queue: &mut VecDeque<Bytes>,
             next: &mut u64,
             src: u32,
@@ -26,18 +50,12 @@ pub mod writer {
             dst: u32,
             bytes: &mut Vec<u8>,
         ) -> bool {
-            let mut records = queue
-                .iter()
-                .map(|&(base_packet_num, num_packets_consumed)| AckData {
-                    base_packet_num,
-                    num_packets_consumed,
-                })
-                .collect();
-            let answer = WriterHandler::consume_acks_into(&mut records, src, dst, bytes);
-            *queue = records
-                .iter()
-                .map(|a| (a.base_packet_num, a.num_packets_consumed))
-                .collect();
+            let mut records = AckQueue::default();
+            for &(base, count) in queue.iter() {
+                records.push_back(base, count);
+            }
+            let answer = records.consume_acks_into(src, dst, bytes);
+            *queue = records.left();
             answer
         }
 

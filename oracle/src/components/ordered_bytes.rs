@@ -32,7 +32,7 @@ impl Default for Buffer {
     }
 }
 
-fn class(error: BluefinError) -> u64 {
+pub fn class(error: BluefinError) -> u64 {
     match error {
         BluefinError::UnexpectedPacketNumberError => 5,
         BluefinError::BufferFullError(_) => 6,
@@ -80,11 +80,11 @@ fn given(told: &Result<ConsumeResult, BluefinError>) -> Vec<u64> {
 
 impl Buffer {
     fn front(&self) -> u64 {
-        probe::parts(&self.0).0
+        probe::front(&self.0)
     }
 
     fn held(&self) -> usize {
-        probe::parts(&self.0).1.iter().flatten().count()
+        probe::held(&self.0)
     }
 
     /// Whether accepting these numbers meets 2^64 - 1 in the slots' reach: refusal 9. The Rust stores it, and overflows where
@@ -145,8 +145,11 @@ impl Buffer {
 
     /// The front number, its slot, and the length of the carry-over.
     fn state(&self) -> [u64; 3] {
-        let (front, _, carried) = probe::parts(&self.0);
-        [front, probe::front_slot(&self.0) as u64, carried.len() as u64]
+        [
+            self.front(),
+            probe::front_slot(&self.0) as u64,
+            probe::carried(&self.0) as u64,
+        ]
     }
 }
 

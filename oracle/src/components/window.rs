@@ -20,7 +20,7 @@ impl Default for Window {
 }
 
 /// 0, or the class of the refusal: the Rust's one error for 5 and 7 is 5.
-fn class(told: BluefinResult<()>) -> u64 {
+pub fn class(told: BluefinResult<()>) -> u64 {
     match told {
         Ok(()) => 0,
         Err(BluefinError::UnexpectedPacketNumberError) => 5,

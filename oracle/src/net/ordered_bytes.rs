@@ -21,4 +21,18 @@ pub(crate) mod probe {
     pub(crate) fn front_slot(b: &OrderedBytes) -> usize {
         b.smallest_packet_number_index
     }
+
+    /// How many packets are held.
+    pub(crate) fn held(b: &OrderedBytes) -> usize {
+        b.packets.iter().flatten().count()
+    }
+
+    pub(crate) fn front(b: &OrderedBytes) -> u64 {
+        b.smallest_packet_number
+    }
+
+    /// The length of the carry-over, 0 if none.
+    pub(crate) fn carried(b: &OrderedBytes) -> usize {
+        b.carry_over_bytes.as_ref().map_or(0, Bytes::len)
+    }
 }
