@@ -1,0 +1,242 @@
+/*
+ * A sender and a receiver in one program: packs a queue, parses the datagram, accepts its packets out of order, reads until nothing is left,
+ * sends acks back and consumes the window; then the same by one call for a datagram. It checks each answer, prints what it saw, and ends
+ * with a failure where anything is off. examples/link.rs of hosts/rust is the same program; hosts/expected is what both print.
+ */
+#include <stdio.h>
+#include <stdlib.h>
+#include <string.h>
+
+#include "bluefin.h"
+
+#define SLOTS 8
+#define WIDTH 1500
+#define LINES 70
+#define LINE 48
+#define QUEUED (LINES * LINE)
+#define START 100
+#define CELLS 16
+#define ACKS 4
+#define PACKETS 16
+
+static void expect(bool holds, const char *what) {
+    if (!holds) {
+        fprintf(stderr, "not so: %s\n", what);
+        exit(1);
+    }
+}
+#define EXPECT(fact) expect(fact, #fact)
+
+/* ---- the layouts that a host in another language must have */
+
+#define AT(type, field, offset) _Static_assert(offsetof(type, field) == offset, #type " " #field)
+#define SIZE(type, size) _Static_assert(sizeof(type) == size && _Alignof(type) == 8, #type)
+
+SIZE(bluefin_header, 24);
+AT(bluefin_header, source_connection_id, 8);
+AT(bluefin_header, destination_connection_id, 12);
+AT(bluefin_header, type_specific_payload, 16);
+AT(bluefin_header, version, 18);
+AT(bluefin_header, type_field, 19);
+AT(bluefin_header, header_protection_mask, 20);
+AT(bluefin_header, header_encrypted, 21);
+SIZE(bluefin_written, 16);
+AT(bluefin_written, refusal, 8);
+SIZE(bluefin_header_read, 40);
+AT(bluefin_header_read, cursor, 24);
+AT(bluefin_header_read, refusal, 32);
+SIZE(bluefin_parsed, 24);
+AT(bluefin_parsed, cursor, 8);
+AT(bluefin_parsed, refusal, 16);
+SIZE(bluefin_ordered_bytes, 32);
+AT(bluefin_ordered_bytes, front_slot, 8);
+AT(bluefin_ordered_bytes, front_number, 16);
+AT(bluefin_ordered_bytes, carry_len, 24);
+SIZE(bluefin_started, 40);
+AT(bluefin_started, refusal, 32);
+SIZE(bluefin_consumed, 64);
+AT(bluefin_consumed, num_packets_consumed, 32);
+AT(bluefin_consumed, base_packet_number, 40);
+AT(bluefin_consumed, bytes_consumed, 48);
+AT(bluefin_consumed, refusal, 56);
+SIZE(bluefin_consumed_bytes, 72);
+AT(bluefin_consumed_bytes, pieces, 56);
+AT(bluefin_consumed_bytes, refusal, 64);
+SIZE(bluefin_window, 16);
+AT(bluefin_window, count, 8);
+SIZE(bluefin_inserted, 24);
+AT(bluefin_inserted, refusal, 16);
+SIZE(bluefin_run, 40);
+AT(bluefin_run, last, 16);
+AT(bluefin_run, length, 24);
+AT(bluefin_run, refusal, 32);
+SIZE(bluefin_acks_received, 40);
+AT(bluefin_acks_received, packets, 16);
+AT(bluefin_acks_received, cursor, 24);
+AT(bluefin_acks_received, refusal, 32);
+SIZE(bluefin_ack, 16);
+AT(bluefin_ack, num_packets_consumed, 8);
+SIZE(bluefin_ring, 24);
+AT(bluefin_ring, tail, 8);
+AT(bluefin_ring, len, 16);
+SIZE(bluefin_pushed, 48);
+AT(bluefin_pushed, given_back, 24);
+AT(bluefin_pushed, full, 40);
+AT(bluefin_pushed, refusal, 41);
+SIZE(bluefin_popped, 48);
+AT(bluefin_popped, ack, 24);
+AT(bluefin_popped, refusal, 40);
+SIZE(bluefin_cleared, 32);
+AT(bluefin_cleared, refusal, 24);
+SIZE(bluefin_acks_packed, 40);
+AT(bluefin_acks_packed, acks, 24);
+AT(bluefin_acks_packed, to_send, 32);
+AT(bluefin_acks_packed, refusal, 33);
+SIZE(bluefin_data_packed, 48);
+AT(bluefin_data_packed, packets, 8);
+AT(bluefin_data_packed, next_packet_num, 16);
+AT(bluefin_data_packed, entries_removed, 24);
+AT(bluefin_data_packed, bytes_cut, 32);
+AT(bluefin_data_packed, refusal, 40);
+SIZE(bluefin_reserved, 24);
+AT(bluefin_reserved, next_packet_num, 8);
+AT(bluefin_reserved, refusal, 16);
+
+/* ---- the two ends */
+
+typedef struct {
+    bluefin_ordered_bytes small;
+    bool marks[SLOTS];
+    uint32_t lengths[SLOTS];
+    uint8_t store[(SLOTS + 1) * WIDTH];
+} buffer;
+
+static uint8_t queue[QUEUED];
+static uint32_t queue_lengths[LINES];
+static uint8_t datagram[15200];
+static uint32_t index_cells[2 * PACKETS];
+
+static void fill_queue(void) {
+    for (int i = 0; i < LINES; i++) {
+        char line[LINE + 1];
+        snprintf(line, sizeof line, "%03d pack my box with five dozen liquor jugs....\n", i + 1);
+        memcpy(queue + i * LINE, line, LINE);
+        queue_lengths[i] = LINE;
+    }
+}
+
+/* Packs the queue and, behind the data, a FIN; answers the datagram's length. */
+static size_t send_all(void) {
+    bluefin_data_packed data =
+        bluefin_consume_data_into(queue, QUEUED, queue_lengths, LINES, START, 1, 2, datagram, sizeof datagram);
+    EXPECT(data.refusal == 0 && data.bytes == QUEUED && data.entries_removed == LINES && data.bytes_cut == 0);
+    printf("packed %zu bytes of %d entries into %zu packets, next number %llu\n", data.bytes, LINES, data.packets,
+           (unsigned long long)data.next_packet_num);
+    size_t end = data.bytes + 20 * data.packets;
+    bluefin_reserved reserved = bluefin_reserve_close_packet_num(data.next_packet_num);
+    EXPECT(reserved.refusal == 0);
+    bluefin_written fin = bluefin_write_fin(1, 2, reserved.number, datagram + end, sizeof datagram - end);
+    EXPECT(fin.refusal == 0 && fin.bytes == 20);
+    end += fin.bytes;
+    EXPECT(bluefin_payload_bytes_in_datagram(datagram, end) == QUEUED);
+    return end;
+}
+
+static void start_buffer(buffer *b) {
+    bluefin_started started = bluefin_ordered_bytes_new(WIDTH, START, b->marks, SLOTS, b->lengths, SLOTS, b->store, sizeof b->store);
+    EXPECT(started.refusal == 0);
+    b->small = started.state;
+}
+
+static uint8_t accept_packet(buffer *b, size_t i) {
+    const uint8_t *header = datagram + index_cells[2 * i];
+    bluefin_header_read read = bluefin_header_deserialise(header, 20);
+    EXPECT(read.refusal == 0);
+    if (read.header.type_field != BLUEFIN_DATA)
+        return 0;
+    EXPECT(read.header.type_specific_payload == index_cells[2 * i + 1]);
+    return bluefin_ordered_bytes_buffer_in_packet(b->small, read.header.packet_number, header + 20, index_cells[2 * i + 1], b->marks,
+                                                  SLOTS, b->lengths, SLOTS, b->store, sizeof b->store);
+}
+
+/* Reads until refusal 8, holds what was read against the queue, and queues an ack for each read that took packets. */
+static bluefin_ring read_all(buffer *b, bluefin_ack *records) {
+    static uint8_t all[QUEUED + 1024];
+    bluefin_ring ring = bluefin_ring_new();
+    size_t total = 0;
+    for (;;) {
+        bluefin_consumed read = bluefin_ordered_bytes_consume(b->small, 1024, all + total, 1024, b->marks, SLOTS, b->lengths, SLOTS,
+                                                              b->store, sizeof b->store);
+        b->small = read.state;
+        if (read.refusal != 0) {
+            EXPECT(read.refusal == BLUEFIN_EMPTY);
+            break;
+        }
+        printf("read %llu bytes, %zu packets from %llu: %.7s\n", (unsigned long long)read.bytes_consumed, read.num_packets_consumed,
+               (unsigned long long)read.base_packet_number, (const char *)(all + total));
+        total += read.bytes_consumed;
+        if (read.num_packets_consumed > 0) {
+            bluefin_ack ack = {read.base_packet_number, (uint32_t)read.num_packets_consumed};
+            bluefin_pushed pushed = bluefin_ring_push_back(ring, records, ACKS, ack);
+            EXPECT(pushed.refusal == 0 && !pushed.full);
+            ring = pushed.ring;
+        }
+    }
+    EXPECT(total == QUEUED && memcmp(all, queue, QUEUED) == 0);
+    printf("read %zu bytes in all, the bytes that were queued\n", total);
+    return ring;
+}
+
+/* Packs the queued acks, enters them into the window, and consumes it. */
+static void acknowledge(bluefin_ring ring, bluefin_ack *records) {
+    uint8_t acks[20 * ACKS];
+    bluefin_acks_packed packed = bluefin_consume_acks_into(ring, records, ACKS, 0, 2, 1, acks, sizeof acks);
+    EXPECT(packed.refusal == 0 && packed.to_send && packed.ring.len == 0);
+
+    uint64_t cells[CELLS];
+    uint8_t answers[PACKETS] = {0};
+    bluefin_acks_received received = bluefin_receive_acks(bluefin_window_new(START), cells, CELLS, acks, 20 * packed.acks, index_cells,
+                                                          2 * PACKETS, answers, PACKETS);
+    EXPECT(received.refusal == 0 && received.packets == packed.acks);
+    for (size_t i = 0; i < received.packets; i++)
+        EXPECT(answers[i] == 0);
+
+    bluefin_inserted again = bluefin_window_insert_range(received.window, cells, CELLS, START, 1);
+    EXPECT(again.refusal == BLUEFIN_ALREADY_HELD);
+    bluefin_run run = bluefin_window_consume(again.window, cells, CELLS);
+    EXPECT(run.refusal == 0);
+    printf("%zu acks: numbers to %llu are acknowledged, %llu of them\n", packed.acks, (unsigned long long)run.last,
+           (unsigned long long)run.length);
+}
+
+int main(void) {
+    static buffer b;
+    bluefin_ack records[ACKS];
+    fill_queue();
+    size_t length = send_all();
+
+    bluefin_parsed parsed = bluefin_from_bytes(datagram, length, index_cells, 2 * PACKETS);
+    EXPECT(parsed.refusal == 0);
+    printf("parsed %zu packets of %zu bytes\n", parsed.packets, length);
+    bluefin_parsed cut = bluefin_from_bytes(datagram, length - 1, index_cells, 2 * PACKETS);
+    printf("a byte less: refused %d at %zu\n", cut.refusal, cut.cursor);
+    EXPECT(bluefin_from_bytes(NULL, 0, NULL, 0).refusal == BLUEFIN_SHORT);
+
+    start_buffer(&b);
+    EXPECT(bluefin_ordered_bytes_peek(b.small, b.marks, SLOTS, b.lengths, SLOTS, b.store, sizeof b.store) == BLUEFIN_EMPTY);
+    for (size_t i = parsed.packets; i-- > 0;)
+        EXPECT(accept_packet(&b, i) == 0);
+    EXPECT(accept_packet(&b, 0) == BLUEFIN_ALREADY_HELD);
+    acknowledge(read_all(&b, records), records);
+
+    start_buffer(&b);
+    uint8_t answers[PACKETS] = {0};
+    bluefin_parsed received = bluefin_receive(b.small, datagram, length, index_cells, 2 * PACKETS, answers, PACKETS, b.marks, SLOTS,
+                                              b.lengths, SLOTS, b.store, sizeof b.store);
+    EXPECT(received.refusal == 0 && received.packets == parsed.packets);
+    for (size_t i = 0; i < received.packets; i++)
+        EXPECT(answers[i] == 0);
+    printf("received %zu packets by one call\n", received.packets);
+    acknowledge(read_all(&b, records), records);
+    return 0;
+}

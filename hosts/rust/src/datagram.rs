@@ -1,0 +1,208 @@
+//! Packets, and the packets of a datagram.
+
+use crate::header::{Header, HEADER_BYTES};
+use crate::refusal::{Refusal, RefusedAt};
+use crate::sys;
+
+/// The bytes of the largest datagram that is read.
+pub const LARGEST_DATAGRAM: usize = 65_527;
+
+/// The packets that the largest datagram has room for.
+const MOST_PACKETS: usize = LARGEST_DATAGRAM / HEADER_BYTES;
+
+/// Writes header and payload to the start of `buf`, which has 20 bytes and the payload's, and answers their number. The header's
+/// field is not held against the payload. Refusals: 11, 10.
+pub fn packet_serialise_into(
+    header: Header,
+    payload: &[u8],
+    buf: &mut [u8],
+) -> Result<usize, Refusal> {
+    // SAFETY: each pointer stands beside the length of its slice; `buf` is lent alone, so the two do not overlap.
+    let written = unsafe {
+        sys::bluefin_packet_serialise_into(
+            header.to_c(),
+            payload.as_ptr(),
+            payload.len(),
+            buf.as_mut_ptr(),
+            buf.len(),
+        )
+    };
+    Refusal::or(written.refusal, written.bytes)
+}
+
+/// Reads a packet that stands alone: its header, and as payload every byte from the 20th on. Refusals: 1, 4.
+pub fn packet_deserialise(bytes: &[u8]) -> Result<Packet<'_>, Refusal> {
+    // SAFETY: the pointer and the length are those of one slice, which is only read.
+    let header =
+        Header::of_c(unsafe { sys::bluefin_packet_deserialise(bytes.as_ptr(), bytes.len()) })?;
+    Ok(Packet {
+        header,
+        payload: &bytes[HEADER_BYTES..],
+    })
+}
+
+/// A packet of a datagram that the caller holds.
+#[derive(Clone, Copy, Debug, PartialEq, Eq)]
+pub struct Packet<'a> {
+    pub header: Header,
+    pub payload: &'a [u8],
+}
+
+/// The list of a datagram's packets, and for each what it was answered. Owns its memory, and is used again for the next datagram.
+pub struct Index {
+    /// Two numbers to a packet: its header's offset and its payload's length.
+    pub(crate) cells: Vec<u32>,
+    /// What accepting or entering the packet answered.
+    pub(crate) answers: Vec<u8>,
+    listed: usize,
+}
+
+impl Default for Index {
+    fn default() -> Self {
+        Self::new()
+    }
+}
+
+impl Index {
+    /// Room for the packets of every datagram.
+    pub fn new() -> Self {
+        Self::with_room_for(MOST_PACKETS)
+    }
+
+    /// Room for so many packets; a datagram with more is refused with 10.
+    pub fn with_room_for(packets: usize) -> Self {
+        Index {
+            cells: vec![0; 2 * packets],
+            answers: vec![0; packets],
+            listed: 0,
+        }
+    }
+
+    /// Lists the packets of a datagram and answers their number. Refusals: 11, 1, and for each packet 4, 2, 10, at the end 3;
+    /// then nothing is listed.
+    pub fn from_bytes(&mut self, datagram: &[u8]) -> Result<usize, RefusedAt> {
+        // SAFETY: each pointer stands beside the length of its slice; the cells are owned here, so the two do not overlap.
+        let parsed = unsafe {
+            sys::bluefin_from_bytes(
+                datagram.as_ptr(),
+                datagram.len(),
+                self.cells.as_mut_ptr(),
+                self.cells.len(),
+            )
+        };
+        self.listed = parsed.packets;
+        told(parsed)
+    }
+
+    /// The same, but packets before the one that is refused are listed all the same.
+    pub fn from_bytes_into(&mut self, datagram: &[u8]) -> Result<usize, RefusedAt> {
+        // SAFETY: as in `from_bytes`.
+        let parsed = unsafe {
+            sys::bluefin_from_bytes_into(
+                datagram.as_ptr(),
+                datagram.len(),
+                self.cells.as_mut_ptr(),
+                self.cells.len(),
+            )
+        };
+        self.keep(parsed)
+    }
+
+    /// The packets listed, in order; `datagram` is the one that they were listed from. A packet that is not in it ends the list.
+    pub fn packets<'a>(&'a self, datagram: &'a [u8]) -> impl Iterator<Item = Packet<'a>> + 'a {
+        self.cells.chunks_exact(2).take(self.listed).map_while(|c| {
+            let start = c[0] as usize;
+            let payload = start + HEADER_BYTES;
+            let bytes = datagram.get(start..payload + c[1] as usize)?;
+            let header = crate::header_deserialise(&bytes[..HEADER_BYTES]).ok()?;
+            Some(Packet {
+                header,
+                payload: &bytes[HEADER_BYTES..],
+            })
+        })
+    }
+
+    /// For each packet listed, what accepting it (`OrderedBytes::receive`) or entering it (`SlidingWindow::receive_acks`) answered:
+    /// the number of a refusal, or 0. Packets of other types have 0.
+    pub fn answers(&self) -> &[u8] {
+        &self.answers[..self.listed]
+    }
+
+    /// Keeps how many packets a call listed, refused or not.
+    pub(crate) fn keep(&mut self, parsed: sys::Parsed) -> Result<usize, RefusedAt> {
+        self.listed = match Refusal::of(parsed.refusal) {
+            None => parsed.packets,
+            Some(Refusal::BufferShort) => self.cells.len() / 2,
+            Some(_) => self.listed_to(parsed.cursor),
+        };
+        told(parsed)
+    }
+
+    /// How many of the first cells list packets that end at this byte.
+    fn listed_to(&self, cursor: usize) -> usize {
+        let mut end = 0;
+        let before = |cell: &&[u32]| {
+            end += HEADER_BYTES + cell[1] as usize;
+            end <= cursor
+        };
+        self.cells.chunks_exact(2).take_while(before).count()
+    }
+}
+
+fn told(parsed: sys::Parsed) -> Result<usize, RefusedAt> {
+    Refusal::or(parsed.refusal, parsed.packets).map_err(|refusal| RefusedAt {
+        refusal,
+        cursor: parsed.cursor,
+    })
+}
+
+#[cfg(test)]
+mod tests {
+    use super::*;
+    use crate::PacketType;
+
+    fn datagram() -> Vec<u8> {
+        let mut bytes = vec![0; 45];
+        let data = Header::new(1, 2, PacketType::Data, 5, 7);
+        let ack = Header::new(1, 2, PacketType::Ack, 3, 9);
+        let end = packet_serialise_into(data, b"hello", &mut bytes).unwrap();
+        packet_serialise_into(ack, b"", &mut bytes[end..]).unwrap();
+        bytes
+    }
+
+    #[test]
+    fn packets_are_listed() {
+        let bytes = datagram();
+        let mut index = Index::new();
+        assert_eq!(index.from_bytes(&bytes), Ok(2));
+        let packets: Vec<_> = index.packets(&bytes).collect();
+        assert_eq!(packets[0].payload, b"hello");
+        assert_eq!(packets[0].header.packet_number, 7);
+        assert_eq!(packets[1].header.packet_type, PacketType::Ack);
+        assert_eq!(packet_deserialise(&bytes[..25]), Ok(packets[0]));
+    }
+
+    #[test]
+    fn a_refused_walk_keeps_what_it_listed() {
+        let bytes = datagram();
+        let tail = Err(RefusedAt {
+            refusal: Refusal::Tail,
+            cursor: 25,
+        });
+        let mut index = Index::new();
+        assert_eq!(index.from_bytes_into(&bytes[..44]), tail);
+        assert_eq!(index.packets(&bytes[..44]).count(), 1);
+        assert_eq!(index.from_bytes(&bytes[..44]), tail);
+        assert_eq!(index.packets(&bytes[..44]).count(), 0);
+        let mut short = Index::with_room_for(1);
+        let refused = short.from_bytes_into(&bytes).unwrap_err();
+        assert_eq!((refused.refusal, refused.cursor), (Refusal::BufferShort, 0));
+        assert_eq!(short.packets(&bytes).count(), 1);
+    }
+
+    #[test]
+    fn an_empty_slice_is_short() {
+        let refused = Index::new().from_bytes(&[]).unwrap_err();
+        assert_eq!((refused.refusal, refused.cursor), (Refusal::Short, 0));
+    }
+}
