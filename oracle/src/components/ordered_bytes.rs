@@ -19,7 +19,7 @@ const HELD: u64 = 7;
 const SLOTS: u64 = MAX_BUFFER_SIZE as u64;
 
 /// The longest payload that is compared: the width of the replay's slots.
-const WIDTH: u64 = 64;
+pub const WIDTH: u64 = 64;
 
 /// What output bytes hold before a read.
 const BEFORE: u8 = 9;
@@ -43,7 +43,7 @@ pub fn class(error: BluefinError) -> u64 {
 }
 
 /// The payload of a packet follows from its number and its length.
-fn payload(number: u64, length: u64) -> Bytes {
+pub fn payload(number: u64, length: u64) -> Bytes {
     (0..length)
         .map(|i| (number % 256 * 101 + i) as u8)
         .collect()

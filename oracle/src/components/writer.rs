@@ -18,7 +18,7 @@ const PAYLOAD: u64 = 1500;
 const BEFORE: u8 = 9;
 
 /// The queue's bytes end to end follow from their places.
-fn queued(total: u64) -> Vec<u8> {
+pub fn queued(total: u64) -> Vec<u8> {
     (0..total).map(|at| (at * 31 + at / 256) as u8).collect()
 }
 

@@ -1,0 +1,3 @@
+//! The published Rust and this library in one process: what comparing and timing share.
+
+pub mod lent;
