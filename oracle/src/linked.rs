@@ -85,6 +85,11 @@ impl SlidingWindow {
         Some((run.largest_packet_number, run.num_acks_consumed))
     }
 
+    /// Room for more numbers. A window that has been in use has it; a copy of one has not.
+    pub fn reserve(&mut self, more: usize) {
+        window::probe::reserve(&mut self.0, more);
+    }
+
     pub fn expected(&self) -> u64 {
         window::probe::expected(&self.0)
     }

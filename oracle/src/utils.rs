@@ -16,6 +16,10 @@ pub mod window {
         pub(crate) fn held(w: &SlidingWindow) -> Vec<u64> {
             w.ordered_packet_numbers.iter().copied().collect()
         }
+
+        pub(crate) fn reserve(w: &mut SlidingWindow, more: usize) {
+            w.ordered_packet_numbers.reserve(more);
+        }
     }
 }
 

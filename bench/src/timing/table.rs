@@ -1,0 +1,111 @@
+//! Candidates timed in turn, and the table of their best times.
+
+use std::hint::black_box;
+use std::time::{Duration, Instant};
+
+/// One round of a candidate: sets up what is not timed, and answers what the rest took.
+pub type Round<'a> = Box<dyn FnMut() -> Duration + 'a>;
+
+/// How long `work` takes. What it answers is dropped after the clock has stopped.
+pub fn timed<T>(work: impl FnOnce() -> T) -> Duration {
+    let start = Instant::now();
+    let answer = black_box(work());
+    let took = start.elapsed();
+    drop(answer);
+    took
+}
+
+pub struct Row<'a> {
+    pub name: String,
+    /// How many of the row's units one round has.
+    pub units: usize,
+    pub theirs: Round<'a>,
+    pub ours: Round<'a>,
+    /// The ratio that is wanted at most.
+    pub goal: Option<f64>,
+}
+
+pub struct Table {
+    /// How long the rounds of a row go on.
+    long: Duration,
+    lines: Vec<String>,
+    missed: usize,
+}
+
+fn nanoseconds(best: Duration, units: usize) -> f64 {
+    best.as_nanos() as f64 / units as f64
+}
+
+/// Three figures that matter.
+fn shown(ns: f64) -> String {
+    match ns {
+        ns if ns < 10.0 => format!("{ns:.2}"),
+        ns if ns < 100.0 => format!("{ns:.1}"),
+        ns => format!("{ns:.0}"),
+    }
+}
+
+impl Table {
+    pub fn new(long: Duration) -> Self {
+        Table {
+            long,
+            lines: Vec::new(),
+            missed: 0,
+        }
+    }
+
+    /// A line that opens a group of rows.
+    pub fn group(&mut self, name: &str) {
+        self.lines.push(format!("| **{name}** | | | | | |"));
+        eprintln!("{name}");
+    }
+
+    /// Runs the candidates in turn, and keeps each one's best round.
+    pub fn row(&mut self, mut row: Row) {
+        let (mut theirs, mut ours) = (Duration::MAX, Duration::MAX);
+        let start = Instant::now();
+        while start.elapsed() < self.long {
+            theirs = theirs.min((row.theirs)());
+            ours = ours.min((row.ours)());
+        }
+        let [theirs, ours] = [theirs, ours].map(|best| nanoseconds(best, row.units));
+        let ratio = ours / theirs;
+        let (goal, met) = match row.goal {
+            None => (String::new(), ""),
+            Some(goal) if ratio <= goal => (format!("{goal:.1}"), "yes"),
+            Some(goal) => {
+                self.missed += 1;
+                (format!("{goal:.1}"), "no")
+            }
+        };
+        let line = format!(
+            "| {} | {} | {} | {ratio:.2} | {goal} | {met} |",
+            row.name,
+            shown(theirs),
+            shown(ours)
+        );
+        eprintln!("{line}");
+        self.lines.push(line);
+    }
+
+    /// A candidate alone: what a row is to be held against.
+    pub fn alone(&mut self, name: &str, units: usize, mut round: Round) {
+        let mut best = Duration::MAX;
+        let start = Instant::now();
+        while start.elapsed() < self.long {
+            best = best.min(round());
+        }
+        let line = format!("| {name} | | {} | | | |", shown(nanoseconds(best, units)));
+        eprintln!("{line}");
+        self.lines.push(line);
+    }
+
+    pub fn print(&self) {
+        println!("| row | the original, ns | here, ns | ratio | goal | met |");
+        println!("|---|---:|---:|---:|---:|---|");
+        for line in &self.lines {
+            println!("{line}");
+        }
+        println!("\nGoals missed: {}.", self.missed);
+    }
+}
