@@ -101,6 +101,19 @@ AT(bluefin_data_packed, refusal, 40);
 SIZE(bluefin_reserved, 24);
 AT(bluefin_reserved, next_packet_num, 8);
 AT(bluefin_reserved, refusal, 16);
+SIZE(bluefin_close_record, 32);
+AT(bluefin_close_record, pending_fin_ack_send, 8);
+AT(bluefin_close_record, received_fin_ack_for, 16);
+AT(bluefin_close_record, state, 24);
+AT(bluefin_close_record, is_pending, 25);
+AT(bluefin_close_record, is_received, 26);
+AT(bluefin_close_record, peer_fin_observed, 27);
+SIZE(bluefin_close_after, 40);
+AT(bluefin_close_after, refusal, 32);
+SIZE(bluefin_fin_ack_taken, 48);
+AT(bluefin_fin_ack_taken, number, 32);
+AT(bluefin_fin_ack_taken, was_pending, 40);
+AT(bluefin_fin_ack_taken, refusal, 41);
 
 /* ---- the two ends */
 
@@ -209,9 +222,33 @@ static void acknowledge(bluefin_ring ring, bluefin_ack *records) {
            (unsigned long long)run.length);
 }
 
+/* The FIN, which is the datagram's last packet, is answered by a FIN-ACK; each end keeps its close record. */
+static void close_both(size_t fin) {
+    bluefin_header_read read = bluefin_header_deserialise(datagram + index_cells[2 * fin], 20);
+    EXPECT(read.refusal == 0 && read.header.type_field == BLUEFIN_FIN);
+    uint64_t number = read.header.packet_number;
+
+    bluefin_close_record sender = bluefin_close_record_local_fin_sent(bluefin_close_new(false), number).close;
+    bluefin_close_record receiver = bluefin_close_buffer_in_fin(bluefin_close_new(false), number).close;
+    EXPECT(receiver.state == BLUEFIN_PEER_FIN_RECEIVED && receiver.state_fin == number && receiver.peer_fin_observed);
+    bluefin_fin_ack_taken owed = bluefin_close_take_pending_fin_ack_send(receiver);
+    EXPECT(owed.refusal == 0 && owed.was_pending && !owed.close.is_pending);
+
+    uint8_t answer[20];
+    EXPECT(bluefin_write_fin_ack(2, 1, owed.number, answer, sizeof answer).bytes == 20);
+    read = bluefin_header_deserialise(answer, sizeof answer);
+    EXPECT(read.refusal == 0 && read.header.type_field == BLUEFIN_FIN_ACK);
+    sender = bluefin_close_buffer_in_fin_ack(sender, read.header.packet_number).close;
+    EXPECT(sender.is_received && sender.received_fin_ack_for == number);
+    EXPECT(bluefin_close_mark_closed(sender).close.state == BLUEFIN_CLOSED);
+    printf("FIN %llu is answered, and closes\n", (unsigned long long)number);
+}
+
 int main(void) {
     static buffer b;
     bluefin_ack records[ACKS];
+    bluefin_header hello = {.source_connection_id = 1, .type_field = BLUEFIN_CLIENT_HELLO};
+    EXPECT(bluefin_is_hello_packet(BLUEFIN_PACK_LEADER, hello) && !bluefin_is_client_ack_packet(BLUEFIN_PACK_LEADER, hello));
     fill_queue();
     size_t length = send_all();
 
@@ -237,6 +274,7 @@ int main(void) {
     for (size_t i = 0; i < received.packets; i++)
         EXPECT(answers[i] == 0);
     printf("received %zu packets by one call\n", received.packets);
+    close_both(received.packets - 1);
     acknowledge(read_all(&b, records), records);
     return 0;
 }

@@ -4,9 +4,10 @@
 
 mod acks;
 mod buffer;
+mod close;
 mod datagrams;
-mod fin;
 mod header;
+mod net;
 mod packet;
 mod received;
 mod ring;
@@ -32,14 +33,15 @@ fn main() {
     tally::panics_end_it_but_of_the_published_files();
     // Parts of a thousand. A question on packing or on the receive buffer takes longer than one on a header.
     let tallies = [
-        plan.compare::<header::Header>(120),
-        plan.compare::<packet::Packet>(180),
+        plan.compare::<header::Header>(100),
+        plan.compare::<packet::Packet>(160),
         plan.compare::<window::Window>(220),
-        plan.compare::<ring::Ring>(120),
+        plan.compare::<ring::Ring>(100),
         plan.compare::<buffer::Buffer>(200),
         plan.compare::<writer::Writer>(20),
         plan.compare::<acks::Acks>(20),
-        plan.compare::<fin::Fin>(10),
+        plan.compare::<close::Close>(50),
+        plan.compare::<net::Net>(20),
         received::data(&plan, 50),
         received::acks(&plan, 60),
     ];

@@ -3,8 +3,10 @@
 //! saw, and panics where anything is off. hosts/c/main.c is the same program; hosts/expected is what both print.
 
 use bluefin::{
-    consume_data_into, payload_bytes_in_datagram, reserve_close_packet_num, write_fin, Ack,
-    AckRing, Index, OrderedBytes, PacketType, Refusal, SlidingWindow, PACKED_DATAGRAM,
+    consume_data_into, header_deserialise, is_client_ack_packet, is_hello_packet,
+    payload_bytes_in_datagram, reserve_close_packet_num, write_fin, write_fin_ack, Ack, AckRing,
+    CloseRecord, CloseState, Header, Host, Index, OrderedBytes, Packet, PacketType, Refusal,
+    SlidingWindow, PACKED_DATAGRAM,
 };
 
 const SLOTS: usize = 8;
@@ -88,7 +90,34 @@ fn acknowledge(mut ring: AckRing) {
     );
 }
 
+/// The FIN, which is the datagram's last packet, is answered by a FIN-ACK; each end keeps its close record.
+fn close_both(fin: Packet) {
+    assert_eq!(fin.header.packet_type, PacketType::Fin);
+    let number = fin.header.packet_number;
+
+    let (mut sender, mut receiver) = (CloseRecord::new(false), CloseRecord::new(false));
+    sender.record_local_fin_sent(number);
+    receiver.buffer_in_fin(number);
+    assert_eq!(receiver.state(), CloseState::PeerFinReceived(number));
+    assert!(receiver.peer_fin_observed());
+    let owed = receiver.take_pending_fin_ack_send().unwrap();
+    assert_eq!(receiver.pending_fin_ack_send(), None);
+
+    let mut answer = [0; 20];
+    assert_eq!(write_fin_ack(2, 1, owed, &mut answer), Ok(20));
+    let read = header_deserialise(&answer).unwrap();
+    assert_eq!(read.packet_type, PacketType::FinAck);
+    sender.buffer_in_fin_ack(read.packet_number);
+    assert_eq!(sender.received_fin_ack_for(), Some(number));
+    sender.mark_closed();
+    assert_eq!(sender.state(), CloseState::Closed);
+    println!("FIN {number} is answered, and closes");
+}
+
 fn main() {
+    let hello = Header::new(1, 0, PacketType::ClientHello, 0, 0);
+    assert!(is_hello_packet(Host::PackLeader, hello));
+    assert!(!is_client_ack_packet(Host::PackLeader, hello));
     let line = |i| format!("{i:03} pack my box with five dozen liquor jugs....\n");
     let lines: Vec<String> = (1..=LINES).map(line).collect();
     let queue = lines.concat().into_bytes();
@@ -127,5 +156,6 @@ fn main() {
     assert_eq!(buffer.receive(&datagram, &mut index), Ok(packets));
     assert!(index.answers().iter().all(|&answer| answer == 0));
     println!("received {packets} packets by one call");
+    close_both(index.packets(&datagram).last().unwrap());
     acknowledge(read_all(&mut buffer, &queue));
 }

@@ -7,6 +7,7 @@
 //! What is proved is the archive. This wrapper and [`sys`] are tested, not proved.
 
 mod acks;
+mod closing;
 mod datagram;
 mod header;
 mod ordered_bytes;
@@ -16,6 +17,7 @@ pub mod sys;
 mod window;
 
 pub use acks::{AckRing, AcksPacked};
+pub use closing::{is_client_ack_packet, is_hello_packet, CloseRecord, CloseState, Host};
 pub use datagram::{packet_deserialise, packet_serialise_into, Index, Packet, LARGEST_DATAGRAM};
 pub use header::{header_deserialise, header_serialise_into, Header, PacketType, HEADER_BYTES};
 pub use ordered_bytes::{Consumed, OrderedBytes};

@@ -63,6 +63,17 @@ c_structs! {
         refusal: u8,
     }
     Reserved { number: u64, next_packet_num: u64, refusal: u8 }
+    CloseRecord {
+        state_fin: u64,
+        pending_fin_ack_send: u64,
+        received_fin_ack_for: u64,
+        state: u8,
+        is_pending: bool,
+        is_received: bool,
+        peer_fin_observed: bool,
+    }
+    CloseAfter { close: CloseRecord, refusal: u8 }
+    FinAckTaken { close: CloseRecord, number: u64, was_pending: bool, refusal: u8 }
 }
 
 extern "C" {
@@ -254,6 +265,16 @@ extern "C" {
         buf: *mut u8,
         buf_len: usize,
     ) -> Written;
+
+    pub fn bluefin_close_new(peer_fin_observed: bool) -> CloseRecord;
+    pub fn bluefin_close_buffer_in_fin(c: CloseRecord, n: u64) -> CloseAfter;
+    pub fn bluefin_close_buffer_in_fin_ack(c: CloseRecord, n: u64) -> CloseAfter;
+    pub fn bluefin_close_record_local_fin_sent(c: CloseRecord, n: u64) -> CloseAfter;
+    pub fn bluefin_close_mark_closed(c: CloseRecord) -> CloseAfter;
+    pub fn bluefin_close_take_pending_fin_ack_send(c: CloseRecord) -> FinAckTaken;
+
+    pub fn bluefin_is_hello_packet(host: u8, header: Header) -> bool;
+    pub fn bluefin_is_client_ack_packet(host: u8, header: Header) -> bool;
 }
 
 #[cfg(test)]
@@ -293,5 +314,9 @@ mod tests {
         layout!(AcksPacked, 40, ring 0, acks 24, to_send 32, refusal 33);
         layout!(DataPacked, 48, bytes 0, packets 8, next_packet_num 16, entries_removed 24, bytes_cut 32, refusal 40);
         layout!(Reserved, 24, number 0, next_packet_num 8, refusal 16);
+        layout!(CloseRecord, 32, state_fin 0, pending_fin_ack_send 8, received_fin_ack_for 16, state 24, is_pending 25,
+            is_received 26, peer_fin_observed 27);
+        layout!(CloseAfter, 40, close 0, refusal 32);
+        layout!(FinAckTaken, 48, close 0, number 32, was_pending 40, refusal 41);
     }
 }
