@@ -13,15 +13,14 @@ use native.Mathlib.Nat.{add-zero, add-assoc, le-refl}
 use lib.ListN.{length, take, drop, set, getD, replicate, getElem?, length-append, length-drop}
 use lib.Seq.{take-add, take-append-le, getD-set-same, getD-set-other}
 use borrow.Author.Tests.{eq-eqb, ne-eqb}
-use Rattle.refusal.specs.Said.{Said, answers, refuses}
-use Rattle.refusal.proofs.Checks.{Failed}
+use Rattle.refusal.specs.Said.{Said, answers, refuses, refusalIn}
 use Rattle.lists.specs.Numbers.{largest}
 use Rattle.lists.proofs.Pad.{getD-all, getD-moved}
 use Rattle.lists.proofs.Flatten.{flatten-append}
 use Rattle.lists.proofs.Lookup.{lookup-append, lookup-drop}
 use Rattle.packet.specs.Packet.{Packet}
 use Rattle.ordered_bytes.specs.declared.OrderedBytes.{OrderedBytes}
-use Rattle.ordered_bytes.specs.Receiver.{Receiver, isHeld, placeAt, acceptChecks, accepted, payloads, available, consumed}
+use Rattle.ordered_bytes.specs.Receiver.{Receiver, isHeld, placeAt, accepted, payloads, available, consumed}
 use Rattle.ordered_bytes.specs.Buffer.{Buffer, view, wellFormed}
 use Rattle.ordered_bytes.specs.Calls.{creating, accepting, peeking, consuming, consumingBytes}
 use Rattle.lists.proofs.Order.{either}
@@ -32,7 +31,8 @@ use Rattle.ordered_bytes.proofs.Outcome.{Creating, makes, create-ways, Acceptab
 use Rattle.ordered_bytes.proofs.Kept.{create-kept, accept-kept, consume-kept, consume-bytes-kept}
 use Rattle.ordered_bytes.proofs.Reading.{accept-stores, Takes, Gives, Dry, Empties, consume-gives, consume-empty, consume-dry, consume-refused, consume-bytes-gives, consume-bytes-refused, consume-bytes-dry, weight, consume-lowers, consume-bytes-lowers}
 use Rattle.window.specs.Window.{member}
-use Rattle.link.specs.Demand3.{ReceiverSide, Ack, Link, Call, read, read-pieces, fresh, acceptedOne, acceptedAll, ackOf, gave, gaveNothing, readBy, readPiecesBy, step, run, In, All, Reads, refusal, acceptRefusals, refusals, Stops}
+use Rattle.receive.proofs.Twelve.{accept-never}
+use Rattle.link.specs.Demand3.{ReceiverSide, Ack, Link, Call, read, read-pieces, fresh, acceptedOne, acceptedAll, ackOf, gave, gaveNothing, readBy, readPiecesBy, step, run, In, All, Reads, acceptRefusals, refusals, Stops}
 use Rattle.link.proofs.All.{all-map, all-drop}
 use Rattle.link.proofs.Invariant.{ReceiverKeeps}
 
@@ -77,12 +77,12 @@ data Ends {A : Type 0} (said : Said A) : Type 0 where
   eight : said ≡ refuses 8 → Ends said
   ten : said ≡ refuses 10 → Ends said
 
-ends-well : {A : Type 0} {said : Said A} → Ends said → refusal said ≡ 12 → ⊥
+ends-well : {A : Type 0} {said : Said A} → Ends said → refusalIn said ≡ 12 → ⊥
 ends-well (values v e) h = let z : _≡_ {A = ℕ} 0 12 = rw e at h in omega arith
 ends-well (eight e) h = let z : _≡_ {A = ℕ} 8 12 = rw e at h in omega arith
 ends-well (ten e) h = let z : _≡_ {A = ℕ} 10 12 = rw e at h in omega arith
 
-ends-eight : {A : Type 0} {said : Said A} → Ends said → refusal said ≡ 8 → said ≡ refuses 8
+ends-eight : {A : Type 0} {said : Said A} → Ends said → refusalIn said ≡ 8 → said ≡ refuses 8
 ends-eight (values v e) h = absurd (let z : _≡_ {A = ℕ} 0 8 = rw e at h in omega arith)
 ends-eight (eight e) h = e
 ends-eight (ten e) h = absurd (let z : _≡_ {A = ℕ} 10 8 = rw e at h in omega arith)
@@ -108,22 +108,6 @@ module _ (b : Buffer) (well : wellFormed b ≡ true) where
       by (short g s e) = rw e (ten refl)
       by (empty g s e) = rw e (eight refl)
       by (reads g room cells any e) = rw e (values _ refl)
-
-  accept-well : (n : ℕ) (payload : List ℕ) → refusal (accepting b n payload .said) ≡ 12 → ⊥
-  accept-well n payload h = by (accept-ways b n payload)
-    where
-      other : {r : ℕ} → Failed (acceptChecks (view b) n payload) r → r ≡ 12 → ⊥
-      other (inl f) q = omega (arith, f .1)
-      other (inr (_, inl f)) q = omega (arith, f .1)
-      other (inr (_, inr (_, inl f))) q = omega (arith, f .1)
-      other (inr (_, inr (_, inr (_, inl f)))) q = omega (arith, f .1)
-      other (inr (_, inr (_, inr (_, inr (_, inl f))))) q = omega (arith, f .1)
-      other (inr (_, inr (_, inr (_, inr (_, inr (_, f)))))) q = f
-
-      by : Accepting b n payload → ⊥
-      by (malformed m e) = true≢false (sym well ∙ m)
-      by (refused r g f e) = other f (rw e at h)
-      by (stores a e) = let z : _≡_ {A = ℕ} 0 12 = rw e at h in omega arith
 
 -- ---- a fresh link, and more payloads made
 
@@ -243,14 +227,14 @@ module _ {s : ℕ} {made : List (List ℕ)} {k : ℕ} where
   pub accept-all-well : (packets : List Packet) {d : ReceiverSide} → All (Numbered s made) packets → ReceiverKeeps s made k d → In 12 (acceptRefusals packets d) → ⊥
   unfolding All In acceptRefusals
   accept-all-well [] all keeps never = never
-  accept-all-well (p ∷ ps) {d} all keeps (inl e) = accept-well (d .buffer) (keeps .good) (p .header .«packet_number») (p .payload) (sym e)
+  accept-all-well (p ∷ ps) {d} all keeps (inl e) = accept-never (d .buffer) (p .header .«packet_number») (p .payload) (keeps .good) (sym e)
   accept-all-well (p ∷ ps) all keeps (inr later) = accept-all-well ps (all .1) (accept-keeps p (all .0) keeps) later
 
-  pub peek-well : {d : ReceiverSide} → ReceiverKeeps s made k d → refusal (peeking (d .buffer)) ≡ 12 → ⊥
+  pub peek-well : {d : ReceiverSide} → ReceiverKeeps s made k d → refusalIn (peeking (d .buffer)) ≡ 12 → ⊥
   unfolding peeking
   peek-well {d} keeps = rw (keeps .good) (by (available (view (d .buffer))))
     where
-      by : (yes : Bool) → refusal {A = Unit} (cond (not yes) (refuses 8) (answers tt)) ≡ 12 → ⊥
+      by : (yes : Bool) → refusalIn {A = Unit} (cond (not yes) (refuses 8) (answers tt)) ≡ 12 → ⊥
       by true e = omega arith
       by false e = omega arith
 
@@ -384,19 +368,19 @@ module _ {s : ℕ} {made : List (List ℕ)} {k : ℕ} {d : ReceiverSide} (keeps 
       by (eight e) = rw (e, consume-bytes-refused (d .buffer) limit out list e .0) stay
       by (ten e) = rw (e, consume-bytes-refused (d .buffer) limit out list e .0) stay
 
-  pub read-well : (len : ℕ) (out : List ℕ) → refusal (consuming (d .buffer) len out .said) ≡ 12 → ⊥
+  pub read-well : (len : ℕ) (out : List ℕ) → refusalIn (consuming (d .buffer) len out .said) ≡ 12 → ⊥
   read-well len out = ends-well (read-ends (d .buffer) (keeps .good) len out)
 
-  pub read-pieces-well : (limit : ℕ) (out list : List ℕ) → refusal (consumingBytes (d .buffer) limit out list .said) ≡ 12 → ⊥
+  pub read-pieces-well : (limit : ℕ) (out list : List ℕ) → refusalIn (consumingBytes (d .buffer) limit out list .said) ≡ 12 → ⊥
   read-pieces-well limit out list = ends-well (read-pieces-ends (d .buffer) (keeps .good) limit out list)
 
   -- "To empty": 8, asked for a byte or a piece at least, leaves nothing to give
-  pub read-dry : (len : ℕ) (out : List ℕ) → 0 < len → refusal (consuming (d .buffer) len out .said) ≡ 8 → Dry (afterRead len out d .buffer)
+  pub read-dry : (len : ℕ) (out : List ℕ) → 0 < len → refusalIn (consuming (d .buffer) len out .said) ≡ 8 → Dry (afterRead len out d .buffer)
   read-dry len out asked h =
       let said = ends-eight (read-ends (d .buffer) (keeps .good) len out) h in
       rw said (consume-dry (d .buffer) len out said asked)
 
-  pub read-pieces-dry : (limit : ℕ) (out list : List ℕ) → 0 < limit → refusal (consumingBytes (d .buffer) limit out list .said) ≡ 8
+  pub read-pieces-dry : (limit : ℕ) (out list : List ℕ) → 0 < limit → refusalIn (consumingBytes (d .buffer) limit out list .said) ≡ 8
       → Dry (afterPieces limit out list d .buffer)
   read-pieces-dry limit out list asked h =
       let said = ends-eight (read-pieces-ends (d .buffer) (keeps .good) limit out list) h in

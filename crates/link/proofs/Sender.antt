@@ -12,7 +12,7 @@ use native.Mathlib.Omega.{arith}
 use lib.ListN.{length, getElem?, length-append, take-append-drop}
 use lib.Dec.{ltb, leb}
 use borrow.Author.Tests.{ltb-false, leb-false, eq-eqb}
-use Rattle.refusal.specs.Said.{Said, answers, refuses, checks}
+use Rattle.refusal.specs.Said.{Said, answers, refuses, refusalIn, checks}
 use Rattle.lists.specs.Numbers.{largest}
 use Rattle.lists.proofs.Flatten.{flatten-append}
 use Rattle.packet.specs.Packet.{Packet}
@@ -21,7 +21,7 @@ use Rattle.writer.specs.Reserve.{reserving}
 use Rattle.writer.specs.declared.DataPacked.{DataPacked}
 use Rattle.writer.proofs.Made.{payloads-joined, count-payloads, payload-some, remaining-adds-up}
 use Rattle.ordered_bytes.specs.declared.OrderedBytes.{OrderedBytes}
-use Rattle.link.specs.Demand3.{SenderSide, Link, fresh, enqueued, packedBy, packed, reservedBy, refusal, In, All, MadeEarlier, Made}
+use Rattle.link.specs.Demand3.{SenderSide, Link, fresh, enqueued, packedBy, packed, reservedBy, In, All, MadeEarlier, Made}
 use Rattle.link.proofs.All.{all-append, all-getD}
 use Rattle.link.proofs.Invariant.{key, numberedFrom, SenderKeeps}
 
@@ -179,10 +179,10 @@ module _ {s : ℕ} {payloads : List (List ℕ)} {d : SenderSide} (v : SenderKeep
     fits = v .fits;
   }
 
-  pub pack-well : (src dst : ℕ) (out : List ℕ) → refusal (packing byteLimit (d .queue) (d .next) src dst out .0) ≡ 12 → ⊥
+  pub pack-well : (src dst : ℕ) (out : List ℕ) → refusalIn (packing byteLimit (d .queue) (d .next) src dst out .0) ≡ 12 → ⊥
   pack-well src dst out = by _ (packing-says src dst out d (v .addsUp))
     where
-      by : (said : Said DataPacked) → Says d said → refusal said ≡ 12 → ⊥
+      by : (said : Said DataPacked) → Says d said → refusalIn said ≡ 12 → ⊥
       by said (takes h) e = omega arith
       by said (stays n other) e = other e
 
@@ -233,9 +233,9 @@ module _ {s : ℕ} {payloads : List (List ℕ)} {d : SenderSide} (v : SenderKeep
             fits = omega arith;
           }
 
-pub reserve-well : (next : ℕ) → refusal (reserving next) ≡ 12 → ⊥
+pub reserve-well : (next : ℕ) → refusalIn (reserving next) ≡ 12 → ⊥
 reserve-well next = by (leb largest next)
   where
-    by : (exhausted : Bool) → refusal {A = ℕ × ℕ} (checks ((exhausted, 9) ∷ []) refuses (answers (next, next + 1))) ≡ 12 → ⊥
+    by : (exhausted : Bool) → refusalIn {A = ℕ × ℕ} (checks ((exhausted, 9) ∷ []) refuses (answers (next, next + 1))) ≡ 12 → ⊥
     by true e = omega arith
     by false e = omega arith

@@ -10,13 +10,15 @@ use native.Mathlib.Nat.{le-of-suc-le-suc, not-suc-le-zero, le-refl}
 use native.Mathlib.Omega.{arith}
 use lib.Dec.{ltb, leb}
 use borrow.Author.Tests.{ltb-true, ltb-false, le-leb, ne-eqb}
+use Rattle.refusal.specs.Said.{refusalIn}
 use Rattle.lists.specs.Numbers.{largest}
 use Rattle.window.specs.Window.{Outcome, expected, window, held, member, wellFormed, numbers, insertPacketNumber, beforeHeld, insertRange, consume}
 use Rattle.window.specs.declared.SlidingWindow.{SlidingWindow}
 use Rattle.window.proofs.Rises.{both, not-below, well-formed}
 use Rattle.window.proofs.Members.{among, member-append, member-numbers}
 use Rattle.window.proofs.Calls as calls
-use Rattle.link.specs.Demand3.{WindowSide, entering, enteringRange, inserted, rangeInserted, expectsAfter, windowConsumed, refusal}
+use Rattle.receive.proofs.Twelve.{range-never}
+use Rattle.link.specs.Demand3.{WindowSide, entering, enteringRange, inserted, rangeInserted, expectsAfter, windowConsumed}
 use Rattle.link.proofs.Invariant.{WindowKeeps}
 
 -- ---- which numbers have entered
@@ -174,25 +176,20 @@ module _ {s f : ℕ} {d : WindowSide} (v : WindowKeeps s f d) where
 
   -- ---- no call answers 12
 
-  pub insert-well : (n : ℕ) → refusal (insertPacketNumber (d .state) (d .cells) n .0) ≡ 12 → ⊥
+  pub insert-well : (n : ℕ) → refusalIn (insertPacketNumber (d .state) (d .cells) n .0) ≡ 12 → ⊥
   insert-well n = by (insertPacketNumber (d .state) (d .cells) n) (calls.insert-law (d .state) (d .cells) (v .good) n .0)
     where
-      by : (o : Outcome Unit) → calls.Insertion (d .state) (d .cells) n o → refusal (o .0) ≡ 12 → ⊥
+      by : (o : Outcome Unit) → calls.Insertion (d .state) (d .cells) n o → refusalIn (o .0) ≡ 12 → ⊥
       by o (calls.stores q new a) e = omega (arith, rw q at e)
       by o (calls.refusal r q not-12) e = not-12 (rw q at e)
 
-  pub range-well : (base count : ℕ) → refusal (insertRange (d .state) (d .cells) base count .0) ≡ 12 → ⊥
-  range-well base count = by (insertRange (d .state) (d .cells) base count) (calls.range-law (d .state) (d .cells) (v .good) base count .0)
-    where
-      by : (o : Outcome Unit) → calls.RangeInsertion (d .state) (d .cells) base count o → refusal (o .0) ≡ 12 → ⊥
-      by o (calls.stores q free a) e = omega (arith, rw q at e)
-      by o (calls.stops k u q free m a) e = omega (arith, rw q at e)
-      by o (calls.refusal r q not-7 not-12) e = not-12 (rw q at e)
+  pub range-well : (base count : ℕ) → refusalIn (insertRange (d .state) (d .cells) base count .0) ≡ 12 → ⊥
+  range-well base count = range-never (d .state) (d .cells) base count (v .good)
 
-  pub consume-well : refusal (consume (d .state) (d .cells) .0) ≡ 12 → ⊥
+  pub consume-well : refusalIn (consume (d .state) (d .cells) .0) ≡ 12 → ⊥
   consume-well = by (consume (d .state) (d .cells)) (calls.consume-law (d .state) (d .cells) (v .good) .0)
     where
-      by : (o : Outcome (Option (ℕ × ℕ))) → calls.Consumption (d .state) (d .cells) o → refusal (o .0) ≡ 12 → ⊥
+      by : (o : Outcome (Option (ℕ × ℕ))) → calls.Consumption (d .state) (d .cells) o → refusalIn (o .0) ≡ 12 → ⊥
       by o (calls.run last size q any sum up run end kept) e = omega (arith, rw q at e)
       by o (calls.nothing q end) e = omega (arith, rw q at e)
 

@@ -9,7 +9,7 @@ use mathlib.Core.Option.{Option, none, some}
 use mathlib.Core.List.{List, [], _∷_, _++_, map, flatten}
 use lib.ListN.{length, take, drop}
 use lib.Dec.{eqb}
-use Rattle.refusal.specs.Said.{Said, answers, refuses, refusesAt}
+use Rattle.refusal.specs.Said.{Said, answers, refuses, refusesAt, refusalIn}
 use Rattle.lists.specs.Numbers.{largest}
 use Rattle.header.specs.Types.{typeNumber}
 use Rattle.packet.specs.Packet.{Packet}
@@ -244,7 +244,7 @@ unfoldable pub All : {A : Type 0} → (A → Type 0) → List A → Type 0
 All P [] = Unit
 All P (x ∷ xs) = P x × All P xs
 
--- the data packets (type 3) that an arrival indexed: all that it listed where it was not refused, and, of `from_bytes_into`, those before the refusal
+-- the data packets (type 3) that an arrival indexed: all that it listed where it was not refused, and, of `from_bytes_into`, those before the refusalIn
 unfoldable pub dataOf : List Packet → List Packet
 dataOf [] = []
 dataOf (p ∷ ps) = cond (eqb (typeNumber (p .header .«type_field»)) 3) (p ∷ dataOf ps) (dataOf ps)
@@ -333,29 +333,23 @@ Reads (insert-range base count) = ⊥
 Reads consume-window = ⊥
 Reads reserve = ⊥
 
--- the number of a refusal, 0 where there is none
-abbrev pub refusal : {A : Type 0} → Said A → ℕ
-refusal (answers a) = 0
-refusal (refuses r) = r
-refusal (refusesAt r at) = r
-
 unfoldable pub acceptRefusals : List Packet → ReceiverSide → List ℕ
 acceptRefusals [] d = []
-acceptRefusals (p ∷ ps) d = refusal (accepting (d .buffer) (p .header .«packet_number») (p .payload) .said) ∷ acceptRefusals ps (acceptedOne p d)
+acceptRefusals (p ∷ ps) d = refusalIn (accepting (d .buffer) (p .header .«packet_number») (p .payload) .said) ∷ acceptRefusals ps (acceptedOne p d)
 
 -- the refusals with which a call, or the calls that it is made of, answered
 abbrev pub refusals : Link → Call → List ℕ
 refusals l (enqueue entries) = []
-refusals l (pack src dst out) = refusal (packing byteLimit (l .sender .queue) (l .sender .next) src dst out .0) ∷ []
-refusals l (arrive from-bytes datagram index packets) = refusal (parses datagram index .0) ∷ acceptRefusals packets (l .receiver)
-refusals l (arrive from-bytes-into datagram index packets) = refusal (parsesInto datagram index .0) ∷ acceptRefusals packets (l .receiver)
-refusals l (read len out) = refusal (consuming (l .receiver .buffer) len out .said) ∷ []
-refusals l (read-pieces limit out list) = refusal (consumingBytes (l .receiver .buffer) limit out list .said) ∷ []
-refusals l peek = refusal (peeking (l .receiver .buffer)) ∷ []
-refusals l (insert n) = refusal (insertPacketNumber (l .acked .state) (l .acked .cells) n .0) ∷ []
-refusals l (insert-range base count) = refusal (insertRange (l .acked .state) (l .acked .cells) base count .0) ∷ []
-refusals l consume-window = refusal (consume (l .acked .state) (l .acked .cells) .0) ∷ []
-refusals l reserve = refusal (reserving (l .sender .next)) ∷ []
+refusals l (pack src dst out) = refusalIn (packing byteLimit (l .sender .queue) (l .sender .next) src dst out .0) ∷ []
+refusals l (arrive from-bytes datagram index packets) = refusalIn (parses datagram index .0) ∷ acceptRefusals packets (l .receiver)
+refusals l (arrive from-bytes-into datagram index packets) = refusalIn (parsesInto datagram index .0) ∷ acceptRefusals packets (l .receiver)
+refusals l (read len out) = refusalIn (consuming (l .receiver .buffer) len out .said) ∷ []
+refusals l (read-pieces limit out list) = refusalIn (consumingBytes (l .receiver .buffer) limit out list .said) ∷ []
+refusals l peek = refusalIn (peeking (l .receiver .buffer)) ∷ []
+refusals l (insert n) = refusalIn (insertPacketNumber (l .acked .state) (l .acked .cells) n .0) ∷ []
+refusals l (insert-range base count) = refusalIn (insertRange (l .acked .state) (l .acked .cells) base count .0) ∷ []
+refusals l consume-window = refusalIn (consume (l .acked .state) (l .acked .cells) .0) ∷ []
+refusals l reserve = refusalIn (reserving (l .sender .next)) ∷ []
 
 -- "To empty" means until 8 with length or limit at least 1: the list ends by such a read
 pub record ToEmpty (l : Link) (calls : List Call) : Type 0 where

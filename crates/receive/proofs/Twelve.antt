@@ -88,7 +88,7 @@ number-fits s at b =
     let a = at + 12 in
     omega (arith, b a, b (a + 1), b (a + 2), b (a + 3), b (a + 4), b (a + 5), b (a + 6), b (a + 7))
 
-accept-never : (b : Buffer) (n : ℕ) (payload : List ℕ) → buffer.wellFormed b ≡ true → refusalIn (accepting b n payload .said) ≡ 12 → ⊥
+pub accept-never : (b : Buffer) (n : ℕ) (payload : List ℕ) → buffer.wellFormed b ≡ true → refusalIn (accepting b n payload .said) ≡ 12 → ⊥
 accept-never b n payload well h = by (accept-ways b n payload)
   where
     other : {r : ℕ} → Failed (acceptChecks (view b) n payload) r → r ≡ 12 → ⊥
@@ -117,7 +117,7 @@ receive-fine b s index answers bytes well none =
 
 -- ---- entering acks
 
-range-never : (w : SlidingWindow) (cells : List ℕ) (base count : ℕ) → window.wellFormed w cells ≡ true → refusalIn (insertRange w cells base count .0) ≡ 12 → ⊥
+pub range-never : (w : SlidingWindow) (cells : List ℕ) (base count : ℕ) → window.wellFormed w cells ≡ true → refusalIn (insertRange w cells base count .0) ≡ 12 → ⊥
 range-never w cells base count well = by (insertRange w cells base count) (calls.range-law w cells well base count .0)
   where
     by : (o : Outcome Unit) → calls.RangeInsertion w cells base count o → refusalIn (o .0) ≡ 12 → ⊥
