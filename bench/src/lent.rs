@@ -28,11 +28,15 @@ macro_rules! lent {
 impl Lent {
     #[inline]
     pub fn new(width: usize, start: u64) -> Self {
+        Self::with_slots(SLOTS, width, start)
+    }
+
+    pub fn with_slots(slots: usize, width: usize, start: u64) -> Self {
         let mut lent = Lent {
             state: sys::OrderedBytes::default(),
-            marks: vec![true; SLOTS],
-            lengths: vec![u32::MAX; SLOTS],
-            store: vec![9; (SLOTS + 1) * width],
+            marks: vec![true; slots],
+            lengths: vec![u32::MAX; slots],
+            store: vec![9; (slots + 1) * width],
         };
         lent.restart(width, start);
         lent
@@ -40,12 +44,12 @@ impl Lent {
 
     #[inline]
     pub fn restart(&mut self, width: usize, start: u64) {
-        let (marks, lengths, store) = lent!(self);
+        let (slots, (marks, lengths, store)) = (self.marks.len(), lent!(self));
         // SAFETY: here and below, each pointer stands beside the length of its vector, and no two overlap.
         let started = unsafe {
             let length = self.store.len();
             sys::bluefin_ordered_bytes_new(
-                width, start, marks, SLOTS, lengths, SLOTS, store, length,
+                width, start, marks, slots, lengths, slots, store, length,
             )
         };
         assert_eq!(started.refusal, 0);
@@ -54,12 +58,12 @@ impl Lent {
 
     #[inline]
     pub fn set_start(&mut self, start: u64) -> u8 {
-        let (marks, lengths, store) = lent!(self);
+        let (slots, (marks, lengths, store)) = (self.marks.len(), lent!(self));
         let length = self.store.len();
         // SAFETY: as in `restart`.
         let started = unsafe {
             sys::bluefin_ordered_bytes_set_start_packet_number(
-                self.state, start, marks, SLOTS, lengths, SLOTS, store, length,
+                self.state, start, marks, slots, lengths, slots, store, length,
             )
         };
         self.state = started.state;
@@ -68,7 +72,7 @@ impl Lent {
 
     #[inline]
     pub fn accept(&mut self, number: u64, payload: &[u8]) -> u8 {
-        let (marks, lengths, store) = lent!(self);
+        let (slots, (marks, lengths, store)) = (self.marks.len(), lent!(self));
         let length = self.store.len();
         // SAFETY: as in `restart`.
         unsafe {
@@ -78,9 +82,9 @@ impl Lent {
                 payload.as_ptr(),
                 payload.len(),
                 marks,
-                SLOTS,
+                slots,
                 lengths,
-                SLOTS,
+                slots,
                 store,
                 length,
             )
@@ -89,17 +93,17 @@ impl Lent {
 
     #[inline]
     pub fn peek(&mut self) -> u8 {
-        let (marks, lengths, store) = lent!(self);
+        let (slots, (marks, lengths, store)) = (self.marks.len(), lent!(self));
         let length = self.store.len();
         // SAFETY: as in `restart`.
         unsafe {
-            sys::bluefin_ordered_bytes_peek(self.state, marks, SLOTS, lengths, SLOTS, store, length)
+            sys::bluefin_ordered_bytes_peek(self.state, marks, slots, lengths, slots, store, length)
         }
     }
 
     #[inline]
     pub fn consume(&mut self, len: usize, buf: &mut [u8]) -> sys::Consumed {
-        let (marks, lengths, store) = lent!(self);
+        let (slots, (marks, lengths, store)) = (self.marks.len(), lent!(self));
         let length = self.store.len();
         // SAFETY: as in `restart`.
         let read = unsafe {
@@ -109,9 +113,9 @@ impl Lent {
                 buf.as_mut_ptr(),
                 buf.len(),
                 marks,
-                SLOTS,
+                slots,
                 lengths,
-                SLOTS,
+                slots,
                 store,
                 length,
             )
@@ -127,7 +131,7 @@ impl Lent {
         buf: &mut [u8],
         list: &mut [u32],
     ) -> sys::ConsumedBytes {
-        let (marks, lengths, store) = lent!(self);
+        let (slots, (marks, lengths, store)) = (self.marks.len(), lent!(self));
         let length = self.store.len();
         // SAFETY: as in `restart`.
         let read = unsafe {
@@ -139,9 +143,9 @@ impl Lent {
                 list.as_mut_ptr(),
                 list.len(),
                 marks,
-                SLOTS,
+                slots,
                 lengths,
-                SLOTS,
+                slots,
                 store,
                 length,
             )
@@ -157,7 +161,7 @@ impl Lent {
         index: &mut [u32],
         answers: &mut [u8],
     ) -> sys::Parsed {
-        let (marks, lengths, store) = lent!(self);
+        let (slots, (marks, lengths, store)) = (self.marks.len(), lent!(self));
         let length = self.store.len();
         // SAFETY: as in `restart`.
         unsafe {
@@ -170,9 +174,9 @@ impl Lent {
                 answers.as_mut_ptr(),
                 answers.len(),
                 marks,
-                SLOTS,
+                slots,
                 lengths,
-                SLOTS,
+                slots,
                 store,
                 length,
             )
@@ -182,14 +186,14 @@ impl Lent {
     /// The payload held at a distance from the front.
     #[inline]
     pub fn held(&self, distance: usize) -> Option<&[u8]> {
-        let slot = (self.state.front_slot + distance) % SLOTS;
+        let slot = (self.state.front_slot + distance) % self.marks.len();
         let start = slot * self.state.slot_width;
         self.marks[slot].then(|| &self.store[start..start + self.lengths[slot] as usize])
     }
 
     #[inline]
     pub fn carried(&self) -> &[u8] {
-        let start = SLOTS * self.state.slot_width;
+        let start = self.marks.len() * self.state.slot_width;
         &self.store[start..start + self.state.carry_len]
     }
 }

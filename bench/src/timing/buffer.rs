@@ -15,6 +15,9 @@ const PACKETS: usize = 1_000;
 /// The longest read.
 const LONG: usize = 65_536;
 
+/// Slots enough where what has arrived is read before more comes: they and their store stay in the first caches.
+const FEW: usize = 64;
+
 /// Packets accepted in a round where accepting alone is timed.
 const ACCEPTED: usize = 32;
 
@@ -89,10 +92,23 @@ fn fresh<T>(
     name: &str,
     goal: Option<f64>,
     input: impl Fn() -> T,
+    theirs: impl FnMut(&mut OrderedBytes, T),
+    ours: impl FnMut(&mut Lent),
+) {
+    over_slots(SLOTS, table, name, goal, input, theirs, ours);
+}
+
+/// The same where this library has another number of slots than the published Rust.
+fn over_slots<T>(
+    slots: usize,
+    table: &mut Table,
+    name: &str,
+    goal: Option<f64>,
+    input: impl Fn() -> T,
     mut theirs: impl FnMut(&mut OrderedBytes, T),
     mut ours: impl FnMut(&mut Lent),
 ) {
-    let mut lent = Lent::new(PAYLOAD, START);
+    let mut lent = Lent::with_slots(slots, PAYLOAD, START);
     table.row(Row {
         name: name.into(),
         units: PACKETS,
@@ -134,24 +150,33 @@ fn in_turn(table: &mut Table, arrivals: &Arrivals) {
             }
         },
     );
-    fresh(
-        table,
-        "each datagram parsed and accepted, then read; here by `receive`",
-        Some(1.0),
-        || arrivals.datagrams.clone(),
-        |buffer, datagrams| {
-            for datagram in datagrams {
-                their_arrivals(buffer, [datagram], &mut into);
-                let _ = black_box(buffer.consume(LONG, &mut buf));
-            }
-        },
-        |lent| {
-            for datagram in &arrivals.datagrams {
-                our_arrivals(lent, std::slice::from_ref(datagram));
-                black_box(lent.consume(LONG, &mut out));
-            }
-        },
-    );
+    for (slots, name) in [
+        (
+            SLOTS,
+            "each datagram parsed and accepted, then read; here by `receive`",
+        ),
+        (FEW, "the same, here over 64 slots"),
+    ] {
+        over_slots(
+            slots,
+            table,
+            name,
+            Some(1.0),
+            || arrivals.datagrams.clone(),
+            |buffer, datagrams| {
+                for datagram in datagrams {
+                    their_arrivals(buffer, [datagram], &mut into);
+                    let _ = black_box(buffer.consume(LONG, &mut buf));
+                }
+            },
+            |lent| {
+                for datagram in &arrivals.datagrams {
+                    our_arrivals(lent, std::slice::from_ref(datagram));
+                    black_box(lent.consume(LONG, &mut out));
+                }
+            },
+        );
+    }
 }
 
 /// All arrive before any is read.
