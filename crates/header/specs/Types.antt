@@ -1,5 +1,9 @@
 -- The packet types and their numbers (core/header.rs, `PacketType`), and the rule of document 01's table of sixteen.
-use Prim.Native.Nat.{ℕ, zero, suc}
+use Prim.Native.Nat.{ℕ, zero, suc, _<_}
+use mathlib.Core.Path.{_≡_}
+use mathlib.Core.Bool.{not}
+use mathlib.Core.List.{List}
+use lib.ListN.{getD}
 use lib.Dec.{ltb, eqb}
 use Rattle.header.specs.declared.PacketType.{PacketType}
 use Rattle.header.specs.declared.PacketType.the-variants.{UnencryptedClientHello, UnencryptedServerHello, ClientAck, UnencryptedData, Ack, Fin, FinAck}
@@ -29,3 +33,11 @@ typeOf (suc (suc (suc (suc (suc (suc n)))))) = FinAck
 -- "Types 0, 1, 2, 4, 5, 6 have no payload", "Type 3 has", "Types 7 to 15 are refusal 4"
 abbrev pub rowOf : ℕ → TypeRow
 rowOf n = record { known = ltb n 7; «has_payload» = eqb n 3 }
+
+-- a row as the table holds it: 0 an unknown type, 2 a header with a payload, any other number a header alone
+abbrev pub rowFor : ℕ → TypeRow
+rowFor kind = record { known = not (eqb kind 0); «has_payload» = eqb kind 2 }
+
+-- "One table gives, for each of the sixteen type numbers, whether it is known and whether it has a payload."
+abbrev pub TypeTable : List ℕ → Type 0
+TypeTable table = (n : ℕ) → n < 16 → rowFor (getD table n 0) ≡ rowOf n

@@ -6,7 +6,7 @@ ghost use mathlib.Core.List.{List};
 ghost use lib.ListN.{length};
 ghost use lib.Seq.{paste};
 ghost use Rattle.refusal.specs.Said.{Said};
-ghost use Rattle.header.specs.Types.{typeNumber, typeOf, rowOf};
+ghost use Rattle.header.specs.Types.{typeNumber, typeOf, rowOf, TypeTable};
 ghost use Rattle.header.specs.Header.{securityByte, securityOf, leadingBytes, headerBytes, headerOf, withNumber, securityWrittenSays, securityReadSays, headerWrittenSays, headerReadSays, serialisesSecurity, deserialisesSecurity, fieldsTooLarge, serialisesInto, deserialisesAt, deserialises};
 use refusal::Refusal;
 
@@ -26,22 +26,14 @@ pub struct TypeRow {
     pub has_payload: bool,
 }
 
-const HEADER_ALONE: TypeRow = TypeRow {
-    known: true,
-    has_payload: false,
-};
+// The three kinds of row, as the table holds them.
+const UNKNOWN: u8 = 0;
 
-const WITH_PAYLOAD: TypeRow = TypeRow {
-    known: true,
-    has_payload: true,
-};
+const HEADER_ALONE: u8 = 1;
 
-const UNKNOWN: TypeRow = TypeRow {
-    known: false,
-    has_payload: false,
-};
+const WITH_PAYLOAD: u8 = 2;
 
-const TYPES: [TypeRow; 16] = [
+const TYPES: [u8; 16] = [
     HEADER_ALONE,
     HEADER_ALONE,
     HEADER_ALONE,
@@ -60,12 +52,33 @@ const TYPES: [TypeRow; 16] = [
     UNKNOWN,
 ];
 
-// The table's row of the type in a header's first byte: the one place that says which types are known and which have a payload.
-pub fn type_row(first: u8) -> TypeRow
+// The one place that says which types are known and which have a payload. The compiler builds the table anew wherever it is read, so a
+// loop takes it once, before its first step, and lends it to `row_in_unchecked`.
+pub fn type_table() -> [u8; 16]
+    ensures { λ r. ⌜ TypeTable r ⌝ }
+{
+    TYPES
+}
+
+// The row of the type in a header's first byte, from the table lent.
+pub fn row_in_unchecked(table: &[u8; 16], first: u8) -> TypeRow
+    requires { ⌜ TypeTable (now table) ⌝ }
     ensures { λ r. ⌜ r ≡ rowOf (first % 16) ⌝ }
 {
     let number = (first % 16) as usize;
-    TYPES[number]
+    let kind = table[number];
+    TypeRow {
+        known: kind != UNKNOWN,
+        has_payload: kind == WITH_PAYLOAD,
+    }
+}
+
+// The same where one header is read.
+fn type_row(first: u8) -> TypeRow
+    ensures { λ r. ⌜ r ≡ rowOf (first % 16) ⌝ }
+{
+    let table = type_table();
+    row_in_unchecked(&table, first)
 }
 
 // core/header.rs, `PacketType as u8`.

@@ -10,6 +10,7 @@ ghost use Prim.Native.Nat.{ℕ, _+_, _≤_};
 ghost use lib.ListN.{length, drop};
 ghost use Rattle.refusal.specs.Said.{Said};
 ghost use Rattle.header.specs.Header.{headerReadSays};
+ghost use Rattle.header.specs.Types.{TypeTable};
 ghost use Rattle.packet.specs.Packet.{serialisesInto, deserialises, packetWrittenSays};
 ghost use Rattle.packet.specs.Datagram.{parsed, parses, parsesInto, indexes, parsedSays};
 ghost use Rattle.packet.specs.Step.{Looked};
@@ -80,8 +81,9 @@ enum Look {
 }
 
 // "refusal 2 if cursor + 20, or cursor + 19 + field, reaches the length or more", where `left` bytes stand from the cursor on.
-fn look_at(datagram: &[u8], at: usize) -> Look
-    requires { ⌜ at ≤ length (now datagram) ⌝ }
+// The table of types is lent, so that a walk builds it once and not for each packet.
+fn look_at(datagram: &[u8], at: usize, types: &[u8; 16]) -> Look
+    requires { ⌜ (at ≤ length (now datagram)) × TypeTable (now types) ⌝ }
     ensures { λ r. ⌜ Looked (now (datagram .entry)) at r ⌝ }
 {
     let left = datagram.len() - at;
@@ -91,7 +93,7 @@ fn look_at(datagram: &[u8], at: usize) -> Look
     if left < 20 {
         return Look::Fault(Refusal::Tail);
     }
-    let row = header::type_row(datagram[at]);
+    let row = header::row_in_unchecked(types, datagram[at]);
     if !row.known {
         return Look::Fault(Refusal::UnknownType);
     }
@@ -118,10 +120,11 @@ fn count(datagram: &[u8], room: usize) -> Parsed
     if datagram.len() < 20 {
         return Parsed::RefusedAt(Refusal::Short, 0);
     }
+    let types = header::type_table();
     let mut at = 0;
     let mut n = 0;
     loop {
-        let found = look_at(datagram, at);
+        let found = look_at(datagram, at, &types);
         match found {
             Look::End => {
                 return Parsed::Packets(n);
@@ -163,10 +166,11 @@ pub fn index_packets(datagram: &[u8], index: &mut [u32]) -> Indexed
         };
     }
     let room = index.len() / 2;
+    let types = header::type_table();
     let mut at = 0;
     let mut n = 0;
     loop {
-        let found = look_at(datagram, at);
+        let found = look_at(datagram, at, &types);
         match found {
             Look::End => {
                 return Indexed {

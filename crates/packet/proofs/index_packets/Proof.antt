@@ -16,7 +16,7 @@ use Rattle.packet.proofs.index_packets.Statement.{statement}
 use Rattle.packet.proofs.index_packets.Tie as tie
 
 abbrev Inv-loop : tie.InvT-loop
-Inv-loop datagram index₀ room at₀ n₀ index at n =
+Inv-loop datagram index₀ room types at₀ n₀ index at n =
     (at ≤ length datagram)
     × (n ≤ at)
     × (n ≤ room)
@@ -27,22 +27,22 @@ Inv-loop datagram index₀ room at₀ n₀ index at n =
     × (writtenBy room n (walkAt datagram at) ≡ cellsWritten datagram index₀)
 
 abbrev μ-loop : tie.MeasureT-loop
-μ-loop datagram index₀ room at₀ n₀ index at n = length datagram - at
+μ-loop datagram index₀ room types at₀ n₀ index at n = length datagram - at
 
 all : {a b : Said ℕ} {x y : List ℕ} {m n : ℕ} → a ≡ b → x ≡ y → m ≡ n → _≡_ {A = Said ℕ × List ℕ × ℕ} (a, x, m) (b, y, n)
 all e f g = rw (e, f, g)
 
 abbrev room : tie.At-loop Inv-loop μ-loop → ℕ
-room k = cellsIn (now (k .before .before .before .before .before .args .index))
+room k = cellsIn (now (k .before .before .before .before .before .before .args .index))
 
 -- what `look_at` found
 looked : (c : tie.After-look-at Inv-loop μ-loop) {r : Look} → c .look-at .result ≡ r
-    → Looked (now (c .before .before .before .before .before .before .args .datagram)) (c .before .loop .at) r
+    → Looked (now (c .before .before .before .before .before .before .before .before .args .datagram)) (c .before .before .loop .at) r
 looked c q = rw (sym q) (c .look-at .ensures)
 
 -- a packet found lies within the datagram
 within : (c : tie.After-found2 Inv-loop μ-loop)
-    → c .before .before .before .loop .at + 20 + c .found2 .given .0 .0 ≤ length (now (c .before .before .before .before .before .before .before .before .args .datagram))
+    → c .before .before .before .before .loop .at + 20 + c .found2 .given .0 .0 ≤ length (now (c .before .before .before .before .before .before .before .before .before .before .args .datagram))
 within c = looked (c .before .before) (c .found2 .given .1) .within (c .found2 .given .0 .0) refl
 
 returns : tie.Need-returns Inv-loop μ-loop
@@ -57,25 +57,29 @@ returns-2 c =
     let q = begin-short _ (c .before .if1 .left) (c .if2 .taken) in
     all (said-at-once _ _ q) (left-at-once _ _ q) (written-at-once _ (now (c .before .before .before .before .args .index)) q)
 
+type-table-requires : tie.Need-type-table-requires Inv-loop μ-loop
+type-table-requires c κs = search needs
+
 loop-holds : tie.Need-loop-holds Inv-loop μ-loop
 unfolding readingLimit
 loop-holds c =
-    let start = c .before .before .before .before in
-    let q = begin-walk (now (start .args .datagram)) (c .before .if1 .left) (c .if2 .left) in
-    (omega arith, omega arith, omega arith, c .before .if1 .left, refl, said-begin _ _ q, left-begin _ (now (start .args .index)) q, written-begin _ (now (start .args .index)) q)
+    let start = c .before .before .before .before .before in
+    let fits = c .before .before .if1 .left in
+    let q = begin-walk (now (start .args .datagram)) fits (c .before .if2 .left) in
+    (omega arith, omega arith, omega arith, fits, refl, said-begin _ _ q, left-begin _ (now (start .args .index)) q, written-begin _ (now (start .args .index)) q)
 
 look-at-requires : tie.Need-look-at-requires Inv-loop μ-loop
-look-at-requires c κs = c .loop .inv .0
+look-at-requires c κs = (c .before .loop .inv .0, c .before .before .type-table .ensures)
 
 enum-told : tie.Need-enum-told Inv-loop μ-loop
 enum-told c = search needs
 
 same-length : tie.Need-same-length Inv-loop μ-loop
-same-length c = c .before .before .before .loop .inv .4
+same-length c = c .before .before .before .before .loop .inv .4
 
 returns-3 : tie.Need-returns-3 Inv-loop μ-loop
 returns-3 c =
-    let k = c .before .before .before in
+    let k = c .before .before .before .before in
     let q = walk-end _ _ (looked (c .before .before) (c .enum-told .given .1)) in
     all
     (sym (said-ending _ _ (k .loop .inv .2) q) ∙ k .loop .inv .5)
@@ -86,11 +90,11 @@ enum-known-found : tie.Need-enum-known-found Inv-loop μ-loop
 enum-known-found c = search needs
 
 same-length-2 : tie.Need-same-length-2 Inv-loop μ-loop
-same-length-2 c = c .before .before .before .before .loop .inv .4
+same-length-2 c = c .before .before .before .before .before .loop .inv .4
 
 returns-4 : tie.Need-returns-4 Inv-loop μ-loop
 returns-4 c =
-    let k = c .before .before .before .before in
+    let k = c .before .before .before .before .before in
     let q = walk-fault _ _ (looked (c .before .before .before) (c .before .found .given .1)) in
     all
     (sym (said-ending _ _ (k .loop .inv .2) q) ∙ k .loop .inv .5)
@@ -101,12 +105,12 @@ enum-known-found-2 : tie.Need-enum-known-found-2 Inv-loop μ-loop
 enum-known-found-2 c = search needs
 
 same-length-3 : tie.Need-same-length-3 Inv-loop μ-loop
-same-length-3 c = c .before .before .before .before .before .loop .inv .4
+same-length-3 c = c .before .before .before .before .before .before .loop .inv .4
 
 returns-5 : tie.Need-returns-5 Inv-loop μ-loop
 returns-5 c =
     let found = c .before .before in
-    let k = found .before .before .before in
+    let k = found .before .before .before .before in
     let q = walk-packet _ _ (looked (found .before .before) (found .found2 .given .1)) in
     all
     (sym (said-full _ _ (c .if3 .taken) q) ∙ k .loop .inv .5)
@@ -154,7 +158,7 @@ loop-less c = omega (arith, within (c .before .before))
 loop-again : tie.Need-loop-again Inv-loop μ-loop
 loop-again c =
     let found = c .before .before in
-    let k = found .before .before .before in
+    let k = found .before .before .before .before in
     let q = walk-packet _ _ (looked (found .before .before) (found .found2 .given .1)) in (
       within found,
       omega (arith, within found),
@@ -174,6 +178,7 @@ index-packets-spec =
     μ-loop
     returns
     returns-2
+    type-table-requires
     loop-holds
     look-at-requires
     enum-told

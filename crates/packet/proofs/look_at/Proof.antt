@@ -12,13 +12,13 @@ use Rattle.packet.proofs.look_at.Statement.{statement}
 use Rattle.packet.proofs.look_at.Tie as tie
 
 -- the row of the table that was read is the rule's
-row : (c : tie.After-type-row) → c .type-row .result ≡ rowOf (typeAt (now (c .before .before .before .before .before .args .datagram)) (c .before .before .before .before .before .args .at))
-row c = c .type-row .ensures
+row : (c : tie.After-row-in-unchecked) → c .row-in-unchecked .result ≡ rowOf (typeAt (now (c .before .before .before .before .before .args .datagram)) (c .before .before .before .before .before .args .at))
+row c = c .row-in-unchecked .ensures
 
-known-is : (c : tie.After-type-row) {t : Bool} → c .type-row .result .known ≡ t → rowOf (typeAt (now (c .before .before .before .before .before .args .datagram)) (c .before .before .before .before .before .args .at)) .known ≡ t
+known-is : (c : tie.After-row-in-unchecked) {t : Bool} → c .row-in-unchecked .result .known ≡ t → rowOf (typeAt (now (c .before .before .before .before .before .args .datagram)) (c .before .before .before .before .before .args .at)) .known ≡ t
 known-is c e = sym (ap (λ (r : TypeRow). r .known) (row c)) ∙ e
 
-payload-is : (c : tie.After-type-row) {t : Bool} → c .type-row .result .«has_payload» ≡ t → rowOf (typeAt (now (c .before .before .before .before .before .args .datagram)) (c .before .before .before .before .before .args .at)) .«has_payload» ≡ t
+payload-is : (c : tie.After-row-in-unchecked) {t : Bool} → c .row-in-unchecked .result .«has_payload» ≡ t → rowOf (typeAt (now (c .before .before .before .before .before .args .datagram)) (c .before .before .before .before .before .args .at)) .«has_payload» ≡ t
 payload-is c e = sym (ap (λ (r : TypeRow). r .«has_payload») (row c)) ∙ e
 
 sub-left : tie.Need-sub-left
@@ -30,11 +30,11 @@ returns c = at-end _ _ (c .if1 .taken)
 returns-2 : tie.Need-returns-2
 returns-2 c = at-tail _ _ (c .before .if1 .left) (c .if2 .taken)
 
-shared-slice-read-type-row : tie.Need-shared-slice-read-type-row
-shared-slice-read-type-row c = search needs
+shared-slice-read-row-in-unchecked : tie.Need-shared-slice-read-row-in-unchecked
+shared-slice-read-row-in-unchecked c = search needs
 
-type-row-requires : tie.Need-type-row-requires
-type-row-requires c κs = search needs
+row-in-unchecked-requires : tie.Need-row-in-unchecked-requires
+row-in-unchecked-requires c κs = c .before .before .before .before .pre .1
 
 returns-3 : tie.Need-returns-3
 returns-3 c =
@@ -90,8 +90,8 @@ look-at-spec =
     sub-left
     returns
     returns-2
-    shared-slice-read-type-row
-    type-row-requires
+    shared-slice-read-row-in-unchecked
+    row-in-unchecked-requires
     returns-3
     returns-4
     add-get2
