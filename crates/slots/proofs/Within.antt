@@ -1,19 +1,23 @@
--- The loop over the lengths of refusal 12's test: a turn, and the end. What is left to test, and the flag, give the test of all.
+-- The loops over the lengths of refusal 12's test: a turn, and the end. What is left to test, and the flag, give the test of all.
+-- A block of which the bits are within the width needs no flag.
 -- Assumes nothing.
 use Prim.Native.Nat.{ℕ, _+_, _≤_, _<_}
 use mathlib.Core.Path.{_≡_, refl, sym, ap, _∙_}
 use mathlib.Core.Bool.{Bool, true, false, _&&_}
 use mathlib.Core.List.{List}
 use native.Mathlib.Numerals.{add-one}
+use native.Mathlib.Omega.{arith}
+use lib.Bits.{bitOr, bitAnd, or-add-and, and-le-l, and-le-r}
 use lib.ListN.{length, drop, getD, drop-of-length-le}
 use lib.Seq.{drop-cons}
 use lib.Dec.{leb}
 use borrow.Author.Tests.{le-leb, lt-leb}
 use Rattle.slots.specs.Slots.{allWithin}
 
-within-step : (w i : ℕ) (l : List ℕ) → i < length l → allWithin w (drop i l) ≡ (leb (getD l i 0) w && allWithin w (drop (i + 1) l))
+-- j is the index after i
+within-step : (w i j : ℕ) (l : List ℕ) → j ≡ i + 1 → i < length l → allWithin w (drop i l) ≡ (leb (getD l i 0) w && allWithin w (drop j l))
 unfolding allWithin
-within-step w i l h = ap (allWithin w) (drop-cons l i 0 h) ∙ rw add-one
+within-step w i j l e h = ap (allWithin w) (drop-cons l i 0 h) ∙ rw (e, add-one)
 
 and-false : (b : Bool) → (b && false) ≡ false
 and-false true = refl
@@ -23,12 +27,27 @@ and-true : (b : Bool) → (b && true) ≡ b
 and-true true = refl
 and-true false = refl
 
-pub within-keeps : (w i : ℕ) (l : List ℕ) (ok : Bool) → i < length l → getD l i 0 ≤ w → (ok && allWithin w (drop (i + 1) l)) ≡ (ok && allWithin w (drop i l))
-within-keeps w i l ok h q = rw (within-step w i l h, le-leb (getD l i 0) w q)
+pub within-keeps : (w i j : ℕ) (l : List ℕ) (ok : Bool) → j ≡ i + 1 → i < length l → getD l i 0 ≤ w → (ok && allWithin w (drop j l)) ≡ (ok && allWithin w (drop i l))
+within-keeps w i j l ok e h q = rw (within-step w i j l e h, le-leb (getD l i 0) w q)
 
 pub within-fails : (w i : ℕ) (l : List ℕ) (ok : Bool) → i < length l → w < getD l i 0 → false ≡ (ok && allWithin w (drop i l))
-within-fails w i l ok h q = sym (rw (within-step w i l h, lt-leb (getD l i 0) w q) (and-false ok))
+within-fails w i l ok h q = sym (rw (within-step w i (i + 1) l refl h, lt-leb (getD l i 0) w q) (and-false ok))
 
 pub within-ends : (w i : ℕ) (l : List ℕ) (ok : Bool) → length l ≤ i → ok ≡ (ok && allWithin w (drop i l))
 unfolding allWithin
 within-ends w i l ok h = sym (rw (drop-of-length-le l h) (and-true ok))
+
+-- a flag that is known
+pub flagged : (t b rest all : Bool) → b ≡ t → (b && rest) ≡ all → (t && rest) ≡ all
+flagged t b rest all q e = ap (λ k. k && rest) (sym q) ∙ e
+
+-- neither number is above their bits together
+below-both : (a b o n w : ℕ) → o + n ≡ a + b → n ≤ a → n ≤ b → o ≤ w → (a ≤ w) × (b ≤ w)
+below-both a b o n w e l r h = (omega arith, omega arith)
+
+pub bits-keep : (w i j bits : ℕ) (l all : List ℕ) → j ≡ i + 1 → i < length l → (bits ≤ w → allWithin w (drop i l) ≡ allWithin w all)
+    → bitOr bits (getD l i 0) ≤ w → allWithin w (drop j l) ≡ allWithin w all
+bits-keep w i j bits l all e h f q =
+    let x = getD l i 0 in
+    let both = below-both bits x (bitOr bits x) (bitAnd bits x) w (or-add-and bits x) (and-le-l bits x) (and-le-r bits x) q in
+    within-keeps w i j l true e h (both .1) ∙ f (both .0)

@@ -3,9 +3,9 @@
 // Internal to this library, so a function may ask that a slot lies in the ring; every public call above it refuses first.
 // Proved: which slot, each lent list as it is left, and that each test is the definition's.
 ghost use mathlib.Core.Path.{_≡_};
-ghost use mathlib.Core.Bool.{true, false};
+ghost use mathlib.Core.Bool.{true, false, _&&_};
 ghost use Prim.Native.Nat.{_+_, _*_, _≤_, _<_};
-ghost use lib.ListN.{length, set, replicate};
+ghost use lib.ListN.{length, drop, set, replicate};
 ghost use lib.Seq.{paste};
 ghost use Rattle.slots.specs.Slots.{wrap, cleared, shapeFits, allWithin};
 
@@ -13,6 +13,9 @@ ghost use Rattle.slots.specs.Slots.{wrap, cleared, shapeFits, allWithin}
 const MAX_BUFFER_SIZE: usize = 2000;
 
 const MAX_SLOT_WIDTH: usize = 65535;
+
+// How many lengths refusal 12's test takes at once.
+const BLOCK: usize = 64;
 
 // Of refusal 12's test: N, W and the lent lists' lengths.
 pub fn shape_fits(slot_width: usize, marks: &[bool], lengths: &[u32], store: &[u8]) -> bool
@@ -34,11 +37,70 @@ pub fn shape_fits(slot_width: usize, marks: &[bool], lengths: &[u32], store: &[u
     lengths.len() == n && store.len() == (n + 1) * slot_width
 }
 
-// Of refusal 12's test: no slot's length out of range. One flag and no early exit: the compiler tests many lengths at once.
+// Of refusal 12's test: no slot's length out of range. This test is most of what an accept costs.
+// Equal lengths, as most are, pass by their bits alone, a block at a time; from the first block that does not, each length is compared.
 pub fn lengths_within(slot_width: u32, lengths: &[u32]) -> bool
     ensures { λ r. ⌜ r ≡ allWithin «slot_width» (now (lengths .entry)) ⌝ }
 {
     let mut i = 0;
+    while lengths.len() - i >= BLOCK {
+        if !bits_within(slot_width, lengths, i) {
+            return blocks_within(slot_width, lengths, i);
+        }
+        i += BLOCK;
+    }
+    rest_within(slot_width, lengths, i)
+}
+
+// Whether the bits of a block's lengths, taken together, are a number within the width: then each length is. False says nothing.
+fn bits_within(slot_width: u32, lengths: &[u32], from: usize) -> bool
+    requires { ⌜ from + 64 ≤ length (now lengths) ⌝ }
+    ensures { λ r. ⌜ (r ≡ true → allWithin «slot_width» (drop (from + 64) (now (lengths .entry))) ≡ allWithin «slot_width» (drop from (now (lengths .entry)))) ⌝ }
+{
+    let mut i = 0;
+    let mut bits = 0;
+    while i < BLOCK {
+        bits |= lengths[from + i];
+        i += 1;
+    }
+    bits <= slot_width
+}
+
+fn blocks_within(slot_width: u32, lengths: &[u32], from: usize) -> bool
+    requires { ⌜ from ≤ length (now lengths) ⌝ }
+    ensures { λ r. ⌜ r ≡ allWithin «slot_width» (drop from (now (lengths .entry))) ⌝ }
+{
+    let mut i = from;
+    while lengths.len() - i >= BLOCK {
+        if !block_within(slot_width, lengths, i) {
+            return false;
+        }
+        i += BLOCK;
+    }
+    rest_within(slot_width, lengths, i)
+}
+
+// One flag and no early exit: the compiler tests many lengths at once, and lays a block out with no loop.
+fn block_within(slot_width: u32, lengths: &[u32], from: usize) -> bool
+    requires { ⌜ from + 64 ≤ length (now lengths) ⌝ }
+    ensures { λ r. ⌜ (r && allWithin «slot_width» (drop (from + 64) (now (lengths .entry)))) ≡ allWithin «slot_width» (drop from (now (lengths .entry))) ⌝ }
+{
+    let mut i = 0;
+    let mut within = true;
+    while i < BLOCK {
+        if slot_width < lengths[from + i] {
+            within = false;
+        }
+        i += 1;
+    }
+    within
+}
+
+fn rest_within(slot_width: u32, lengths: &[u32], from: usize) -> bool
+    requires { ⌜ from ≤ length (now lengths) ⌝ }
+    ensures { λ r. ⌜ r ≡ allWithin «slot_width» (drop from (now (lengths .entry))) ⌝ }
+{
+    let mut i = from;
     let mut within = true;
     while i < lengths.len() {
         if slot_width < lengths[i] {

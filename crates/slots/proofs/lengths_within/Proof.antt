@@ -1,54 +1,66 @@
--- `slots::lengths_within` meets its contract. The invariant: the flag and the test of what is left give the test of all.
+-- `slots::lengths_within` meets its contract. The invariant: the test of what is left is the test of all.
 -- Assumes nothing.
 use Prim.Native.Nat.{_-_, _≤_}
 use mathlib.Core.Path.{_≡_, refl, _∙_}
-use mathlib.Core.Bool.{_&&_}
-use mathlib.Core.Logic.{⊎-elim}
 use native.Mathlib.Omega.{arith}
 use lib.ListN.{length, drop}
 use borrow.Author.Needs.{needs}
+use borrow.Author.Tests.{not-false}
 use Rattle.slots.specs.Slots.{allWithin}
-use Rattle.slots.proofs.Within.{within-keeps, within-fails, within-ends}
 use Rattle.slots.proofs.lengths_within.Statement.{statement}
 use Rattle.slots.proofs.lengths_within.Tie as tie
 
 abbrev Inv-loop : tie.InvT-loop
-Inv-loop slot-width lengths i₀ within₀ i within = ((within && allWithin slot-width (drop i lengths)) ≡ allWithin slot-width lengths) × (i ≤ length lengths)
+Inv-loop slot-width lengths i₀ i = (allWithin slot-width (drop i lengths) ≡ allWithin slot-width lengths) × (i ≤ length lengths)
 
 abbrev μ-loop : tie.MeasureT-loop
-μ-loop slot-width lengths i₀ within₀ i within = length lengths - i
+μ-loop slot-width lengths i₀ i = length lengths - i
 
 loop-holds : tie.Need-loop-holds Inv-loop μ-loop
 loop-holds c = (refl, omega arith)
 
-mul-if1 : tie.Need-mul-if1 Inv-loop μ-loop
-mul-if1 c = search needs
+sub-loop : tie.Need-sub-loop Inv-loop μ-loop
+sub-loop c = search needs
 
-shared-slice-read-if1 : tie.Need-shared-slice-read-if1 Inv-loop μ-loop
-shared-slice-read-if1 c = search needs
+bits-within-requires : tie.Need-bits-within-requires Inv-loop μ-loop
+bits-within-requires c κs = search needs
+
+blocks-within-requires : tie.Need-blocks-within-requires Inv-loop μ-loop
+blocks-within-requires c κs = search needs
+
+returns : tie.Need-returns Inv-loop μ-loop
+returns c = c .blocks-within .ensures ∙ c .before .before .before .before .loop .inv .0
 
 add-i : tie.Need-add-i Inv-loop μ-loop
 add-i c = search needs
 
 loop-less : tie.Need-loop-less Inv-loop μ-loop
-loop-less c = omega (arith, c .before .before .loop-test .taken)
+loop-less c = search needs
 
 loop-again : tie.Need-loop-again Inv-loop μ-loop
 loop-again c =
-    let at = c .before .before .before in
-    let k = at .before .args in
-    let more = c .before .before .loop-test .taken in (
-      ⊎-elim
-          (λ w. rw (w .1) (within-fails (k .slot-width) (at .loop .i) (k .lengths .now) (at .loop .within) more (w .0 .taken) ∙ at .loop .inv .0))
-          (λ w. rw (w .1) (within-keeps (k .slot-width) (at .loop .i) (k .lengths .now) (at .loop .within) more (w .0 .left) ∙ at .loop .inv .0))
-          (c .if1 .came),
-      omega (arith, more),
-    )
+    let bits = c .before .bits-within in
+    (bits .ensures (not-false (bits .result) (c .if1 .left)) ∙ c .before .before .before .loop .inv .0, omega arith)
 
-returns : tie.Need-returns Inv-loop μ-loop
-returns c =
-    let at = c .before in
-    within-ends (at .before .args .slot-width) (at .loop .i) (at .before .args .lengths .now) (at .loop .within) (c .loop-test .left) ∙ at .loop .inv .0
+rest-within-requires : tie.Need-rest-within-requires Inv-loop μ-loop
+rest-within-requires c κs = search needs
+
+returns-2 : tie.Need-returns-2 Inv-loop μ-loop
+returns-2 c = c .rest-within .ensures ∙ c .before .before .loop .inv .0
 
 pub lengths-within-spec : {M : Type 1} → statement M
-lengths-within-spec = tie.close (tie.spec Inv-loop μ-loop loop-holds mul-if1 shared-slice-read-if1 add-i loop-less loop-again returns)
+lengths-within-spec =
+    tie.close
+    (tie.spec
+    Inv-loop
+    μ-loop
+    loop-holds
+    sub-loop
+    bits-within-requires
+    blocks-within-requires
+    returns
+    add-i
+    loop-less
+    loop-again
+    rest-within-requires
+    returns-2)

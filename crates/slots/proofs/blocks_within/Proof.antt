@@ -1,0 +1,66 @@
+-- `slots::blocks_within` meets its contract. The invariant: the test of what is left is the test of all.
+-- Assumes nothing.
+use Prim.Native.Nat.{_-_, _≤_}
+use mathlib.Core.Path.{_≡_, refl, _∙_}
+use mathlib.Core.Bool.{true, false}
+use native.Mathlib.Omega.{arith}
+use lib.ListN.{length, drop}
+use borrow.Author.Needs.{needs}
+use borrow.Author.Tests.{not-true, not-false}
+use Rattle.slots.specs.Slots.{allWithin}
+use Rattle.slots.proofs.Within.{flagged}
+use Rattle.slots.proofs.blocks_within.Statement.{statement}
+use Rattle.slots.proofs.blocks_within.Tie as tie
+
+abbrev Inv-loop : tie.InvT-loop
+Inv-loop slot-width lengths from i₀ i = (allWithin slot-width (drop i lengths) ≡ allWithin slot-width (drop from lengths)) × (i ≤ length lengths)
+
+abbrev μ-loop : tie.MeasureT-loop
+μ-loop slot-width lengths from i₀ i = length lengths - i
+
+loop-holds : tie.Need-loop-holds Inv-loop μ-loop
+loop-holds c = (refl, omega arith)
+
+sub-loop : tie.Need-sub-loop Inv-loop μ-loop
+sub-loop c = search needs
+
+block-within-requires : tie.Need-block-within-requires Inv-loop μ-loop
+block-within-requires c κs = search needs
+
+returns : tie.Need-returns Inv-loop μ-loop
+returns c =
+    let block = c .before .block-within in
+    flagged false (block .result) _ _ (not-true (block .result) (c .if1 .taken)) (block .ensures) ∙ c .before .before .before .loop .inv .0
+
+add-i : tie.Need-add-i Inv-loop μ-loop
+add-i c = search needs
+
+loop-less : tie.Need-loop-less Inv-loop μ-loop
+loop-less c = search needs
+
+loop-again : tie.Need-loop-again Inv-loop μ-loop
+loop-again c =
+    let block = c .before .block-within in
+    (flagged true (block .result) _ _ (not-false (block .result) (c .if1 .left)) (block .ensures) ∙ c .before .before .before .loop .inv .0, omega arith)
+
+rest-within-requires : tie.Need-rest-within-requires Inv-loop μ-loop
+rest-within-requires c κs = search needs
+
+returns-2 : tie.Need-returns-2 Inv-loop μ-loop
+returns-2 c = c .rest-within .ensures ∙ c .before .before .loop .inv .0
+
+pub blocks-within-spec : {M : Type 1} → statement M
+blocks-within-spec =
+    tie.close
+    (tie.spec
+    Inv-loop
+    μ-loop
+    loop-holds
+    sub-loop
+    block-within-requires
+    returns
+    add-i
+    loop-less
+    loop-again
+    rest-within-requires
+    returns-2)
