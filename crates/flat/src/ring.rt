@@ -17,7 +17,6 @@ pub struct Pushed {
     pub refusal: u8,
 }
 
-// The header calls the second field `record`, which is a word of the language of the proofs.
 #[repr(C)]
 pub struct Popped {
     pub ring: RingBuffer,
