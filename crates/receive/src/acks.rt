@@ -1,4 +1,5 @@
 // The acks of a datagram, entered into the window one after another. The caller has tested the window; each ack keeps it well formed.
+// Proved: window, cells and answers are those of the entries of specs/Datagram.antt in order.
 ghost use mathlib.Core.Path.{_≡_};
 ghost use mathlib.Core.Bool.{true};
 ghost use Prim.Native.Nat.{_+_, _<_, _≤_};
@@ -8,6 +9,7 @@ ghost use Rattle.packet.specs.Datagram.{packetAt, listed};
 ghost use Rattle.window.specs.Window.{wellFormed, rangeInsertedSays, windowAfterRange};
 ghost use Rattle.receive.specs.Datagram.{enters, takes, takesAll};
 ghost use Rattle.receive.specs.Listed.{Listed};
+use refusal::Refusal;
 use window::RangeInserted;
 use window::SlidingWindow;
 
@@ -84,7 +86,7 @@ fn entered_by(w: SlidingWindow, inserted: RangeInserted) -> Entered
         },
         RangeInserted::AlreadyHeld(v) => Entered {
             window: v,
-            refusal: 7,
+            refusal: refusal::number(Refusal::AlreadyHeld),
         },
         RangeInserted::Refused(r) => Entered {
             window: w,

@@ -1,4 +1,5 @@
 // The data packets of a datagram, accepted one after another. The caller has tested the buffer; each accept keeps it well formed.
+// Proved: buffer and answers are those of the accepts of specs/Datagram.antt in order.
 ghost use mathlib.Core.Path.{_≡_};
 ghost use mathlib.Core.Bool.{true};
 ghost use Prim.Native.Nat.{_+_, _<_, _≤_};
