@@ -19,7 +19,7 @@ typeNumber Ack = 4
 typeNumber Fin = 5
 typeNumber FinAck = 6
 
--- the type of a known number; no call asks for another's
+-- the type of a known number; the last one stands for every other, of which no call of this crate asks
 abbrev pub typeOf : ℕ → PacketType
 typeOf zero = UnencryptedClientHello
 typeOf (suc zero) = UnencryptedServerHello
