@@ -21,6 +21,7 @@ use Rattle.link.proofs.Invariant.{Keeps}
 use Rattle.link.proofs.All.{all-in, all-among, all-map}
 use Rattle.link.proofs.Parsing.{parse-well}
 use Rattle.link.proofs.Runs.{run-last, fairly-before, fair-next}
+use Rattle.link.proofs.Wrote.{wrote}
 use Rattle.link.proofs.Covered.{longest, longest-covered, longest-most, reach, reach-is, reach-most, at-take, flatten-start, start-through}
 use Rattle.link.proofs.Sender.{made-at, made-earlier-at, made-is, sender-begins, enqueue-keeps, pack-keeps, reserve-keeps, pack-well, reserve-well}
 use Rattle.link.proofs.Receiver.{Numbered, receiver-begins, receiver-extends, accept-all-keeps, accept-all-well, read-keeps, read-pieces-keeps, read-well, read-pieces-well, peek-well, read-dry, read-pieces-dry, reads-reach}
@@ -223,6 +224,7 @@ module _ (s w : ℕ) (o : OrderedBytes) (marks : List Bool) (lengths store cells
     atConsume = λ before e.
         let last : run first calls ≡ step (run first before) consume-window = ap (run first) e ∙ run-last first before consume-window in
         rw last (consume-first (reached before (consume-window ∷ []) e .acked));
+    wrote = λ on src dst out p made e. wrote on src dst out p e;
     wellFormed = never-12;
     enough = weight (run first calls .receiver .buffer);
     reaches = reads-reach (run first calls) (ends .receiver .good);

@@ -6,6 +6,7 @@ pub mod Sender
 pub mod Receiver
 pub mod Window
 pub mod Covered
+pub mod Wrote
 pub mod Demand3
 pub mod Sample
 pub mod WholeDatagram

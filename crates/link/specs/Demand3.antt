@@ -1,7 +1,7 @@
 -- Demand 3, whole: a fresh link, any list of calls on it, document 01's premises, and what is claimed of the list ("Premises of demand 3").
 -- Every step is made of the definitions that the calls' contracts cite, on the lent lists themselves; beside them stands only the history.
 -- The theorem is `demand3` of proofs/Demand3.antt.
-use Prim.Native.Nat.{ℕ, zero, suc, _+_, _≤_, _<_}
+use Prim.Native.Nat.{ℕ, zero, suc, _+_, _*_, _^_, _≤_, _<_}
 use mathlib.Core.Path.{_≡_}
 use mathlib.Core.Logic.{_⊎_}
 use mathlib.Core.Bool.{Bool, true, false, cond}
@@ -12,8 +12,8 @@ use lib.Dec.{eqb}
 use Rattle.refusal.specs.Said.{Said, answers, refuses, refusesAt, refusalIn}
 use Rattle.lists.specs.Numbers.{largest}
 use Rattle.header.specs.Types.{typeNumber}
-use Rattle.packet.specs.Packet.{Packet}
-use Rattle.packet.specs.Datagram.{parses, parsesInto, cellsWritten, listed}
+use Rattle.packet.specs.Packet.{Packet, joined}
+use Rattle.packet.specs.Datagram.{parses, parsesInto, cellsIn, cellsWritten, listed}
 use Rattle.writer.specs.Packing.{Queue, packing, packetsMade, shortened, byteLimit, payloadSize}
 use Rattle.writer.specs.Reserve.{reserving}
 use Rattle.writer.specs.declared.DataPacked.{DataPacked}
@@ -244,7 +244,7 @@ unfoldable pub All : {A : Type 0} → (A → Type 0) → List A → Type 0
 All P [] = Unit
 All P (x ∷ xs) = P x × All P xs
 
--- the data packets (type 3) that an arrival indexed: all that it listed where it was not refused, and, of `from_bytes_into`, those before the refusalIn
+-- the data packets (type 3) that an arrival indexed: all that it listed where it was not refused, and, of `from_bytes_into`, those before the refusal
 unfoldable pub dataOf : List Packet → List Packet
 dataOf [] = []
 dataOf (p ∷ ps) = cond (eqb (typeNumber (p .header .«type_field»)) 3) (p ∷ dataOf ps) (dataOf ps)
@@ -253,6 +253,11 @@ abbrev pub listedBy : Said ℕ → List ℕ → List ℕ → List Packet
 listedBy (answers n) datagram index = listed datagram index n
 listedBy (refuses r) datagram index = []
 listedBy (refusesAt r at) datagram index = []
+
+-- what a parser answers, and the index that it leaves
+abbrev pub parsing : Parser → List ℕ → List ℕ → Said ℕ × List ℕ
+parsing from-bytes datagram index = parses datagram index
+parsing from-bytes-into datagram index = parsesInto datagram index
 
 abbrev pub indexed : Parser → List ℕ → List ℕ → List Packet
 indexed from-bytes datagram index = dataOf (listedBy (parses datagram index .0) datagram (parses datagram index .1))
@@ -337,12 +342,11 @@ unfoldable pub acceptRefusals : List Packet → ReceiverSide → List ℕ
 acceptRefusals [] d = []
 acceptRefusals (p ∷ ps) d = refusalIn (accepting (d .buffer) (p .header .«packet_number») (p .payload) .said) ∷ acceptRefusals ps (acceptedOne p d)
 
--- the refusals with which a call, or the calls that it is made of, answered
+-- what a call, or each of the calls that it is made of, was refused with, in order: 0 for one that was not
 abbrev pub refusals : Link → Call → List ℕ
 refusals l (enqueue entries) = []
 refusals l (pack src dst out) = refusalIn (packing byteLimit (l .sender .queue) (l .sender .next) src dst out .0) ∷ []
-refusals l (arrive from-bytes datagram index packets) = refusalIn (parses datagram index .0) ∷ acceptRefusals packets (l .receiver)
-refusals l (arrive from-bytes-into datagram index packets) = refusalIn (parsesInto datagram index .0) ∷ acceptRefusals packets (l .receiver)
+refusals l (arrive parser datagram index packets) = refusalIn (parsing parser datagram index .0) ∷ acceptRefusals packets (l .receiver)
 refusals l (read len out) = refusalIn (consuming (l .receiver .buffer) len out .said) ∷ []
 refusals l (read-pieces limit out list) = refusalIn (consumingBytes (l .receiver .buffer) limit out list .said) ∷ []
 refusals l peek = refusalIn (peeking (l .receiver .buffer)) ∷ []
@@ -365,6 +369,22 @@ pub record Made-in (l : Link) (calls : List Call) (on : Link) (call : Call) : Ty
   pub after : List Call
   pub list : calls ≡ before ++ (call ∷ after)
   pub reached : run l before ≡ on
+
+-- a parser reads a datagram back as these packets, in an index with a cell for each
+pub record ReadsBack (parser : Parser) (datagram : List ℕ) (packets : List Packet) (index : List ℕ) : Type 0 where
+  pub counts : parsing parser datagram index .0 ≡ answers (length packets)
+  pub lists : listed datagram (parsing parser datagram index .1) (length packets) ≡ packets
+  pub indexes : indexed parser datagram index ≡ packets
+
+-- what an unrefused packing did: the packets that it adds to `made` stand end to end at the start of its output,
+-- and, where there are any, both parsers read these bytes back as them (ids have 32 bits, as every call's)
+pub record Wrote (l : Link) (src dst : ℕ) (out : List ℕ) (p : DataPacked) : Type 0 where
+  pub packets : List Packet
+  pub counted : length packets ≡ p .packets
+  pub added : step l (pack src dst out) .sender .made ≡ l .sender .made ++ packets
+  pub written : take (p .bytes + 20 * p .packets) (packing byteLimit (l .sender .queue) (l .sender .next) src dst out .1) ≡ joined packets
+  pub readBack : src < 2 ^ 32 → dst < 2 ^ 32 → 0 < p .packets
+      → (parser : Parser) (index : List ℕ) → p .packets ≤ cellsIn index → ReadsBack parser (joined packets) packets index
 
 -- some read of the list is refused with 8 or 10
 pub record Stops (l : Link) (calls : List Call) : Type 0 where
@@ -391,6 +411,9 @@ pub record Demand3 (s : ℕ) (first : Link) (calls : List Call) : Type 0 where
   pub atConsume : (before : List Call) → calls ≡ before ++ (consume-window ∷ [])
       → ((n : ℕ) → s ≤ n → n < run first calls .acked .expects → member n (run first calls .acked .entered) ≡ true)
       × (member (run first calls .acked .expects) (run first calls .acked .entered) ≡ false)
+  -- what was made is what was written: so of every packing of the list that is not refused
+  pub wrote : (on : Link) (src dst : ℕ) (out : List ℕ) (p : DataPacked) → Made-in first calls on (pack src dst out)
+      → packing byteLimit (on .sender .queue) (on .sender .next) src dst out .0 ≡ answers p → Wrote on src dst out p
   -- no call of the list answers 12
   pub wellFormed : (on : Link) (call : Call) → Made-in first calls on call → In 12 (refusals on call) → ⊥
   -- "which such reads reach unless refused with 10": enough further reads of length or limit at least 1 meet 8 or 10

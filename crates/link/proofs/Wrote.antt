@@ -1,0 +1,66 @@
+-- What an unrefused packing wrote is what it added to the packets made, and both parsers read it back as these.
+-- That packets written end to end are read back is taken from packet/proofs/Trip.antt, what packing makes from writer/proofs/Made.antt.
+-- Assumes nothing.
+use Prim.Native.Nat.{ℕ, suc, _≤_, _<_, _^_}
+use mathlib.Core.Path.{_≡_, refl, sym, ap, _∙_}
+use mathlib.Core.List.{List, [], _∷_}
+use native.Mathlib.Omega.{arith}
+use native.Mathlib.Nat.{le-refl}
+use lib.ListN.{length}
+use Rattle.refusal.specs.Said.{answers}
+use Rattle.packet.specs.Packet.{Packet, joined}
+use Rattle.packet.specs.Datagram.{readingLimit, cellsIn, cellsWritten, parsesInto, parsed, listed}
+use Rattle.packet.proofs.Trip.{Readable, parsed-joined, listed-joined}
+use Rattle.packet.proofs.Index.{answered-all, listed-all, listed-parsed}
+use Rattle.writer.specs.Packing.{packing, byteLimit, dataPacket, numbered, packetsMade}
+use Rattle.writer.specs.declared.DataPacked.{DataPacked}
+use Rattle.writer.proofs.Made.{Answered, answered, count-made, made-fits, readable-made, written-made}
+use Rattle.link.specs.Demand3.{Link, Parser, from-bytes, from-bytes-into, dataOf, ReadsBack, Wrote}
+
+-- all packets made carry data
+data-numbered : (src dst n : ℕ) (ps : List (List ℕ)) → dataOf (numbered src dst n ps) ≡ numbered src dst n ps
+unfolding dataOf numbered
+data-numbered src dst n [] = refl
+data-numbered src dst n (p ∷ ps) = ap (λ (r : List Packet). dataPacket src dst n p ∷ r) (data-numbered src dst (suc n) ps)
+
+-- data packets that make a datagram, read back from it
+module _ {ps : List Packet} (r : Readable ps) (fits : length (joined ps) ≤ readingLimit) (all-data : dataOf ps ≡ ps) (index : List ℕ) (room : length ps ≤ cellsIn index) where
+  counts-back : parsed (joined ps) (cellsIn index) ≡ answers (length ps)
+  counts-back = parsed-joined r fits index room
+
+  lists-back : listed (joined ps) (parsesInto (joined ps) index .1) (length ps) ≡ ps
+  lists-back = listed-all (joined ps) index counts-back ∙ sym (listed-parsed (joined ps) index counts-back) ∙ listed-joined r fits index room
+
+  reads-back : (parser : Parser) → ReadsBack parser (joined ps) ps index
+  reads-back from-bytes = record {
+    counts = counts-back;
+    lists = listed-joined r fits index room;
+    indexes = rw counts-back (ap dataOf lists-back ∙ all-data);
+  }
+  reads-back from-bytes-into =
+      let a = answered-all (joined ps) (cellsIn index) (length ps) counts-back in
+      let all : cellsWritten (joined ps) index ≡ length ps = omega (arith, a .all, a .fits) in
+      record { counts = counts-back; lists = lists-back; indexes = rw all (ap dataOf lists-back ∙ all-data) }
+
+module _ (l : Link) (src dst : ℕ) (out : List ℕ) (p : DataPacked) (e : packing byteLimit (l .sender .queue) (l .sender .next) src dst out .0 ≡ answers p) where
+  made : List Packet
+  made = packetsMade byteLimit src dst (l .sender .next) (l .sender .queue .bytes)
+
+  did : Answered byteLimit (l .sender .queue) (l .sender .next) src dst out p
+  did = answered byteLimit (l .sender .queue) (l .sender .next) src dst out p e
+
+  pub wrote : Wrote l src dst out p
+  unfolding made
+  wrote =
+      let few : p .packets ≡ _ = ap (λ (x : DataPacked). x .packets) (did .said) in
+      let count : length made ≡ p .packets = count-made byteLimit src dst (l .sender .next) (l .sender .queue .bytes) ∙ sym few in
+      record {
+        packets = made;
+        counted = count;
+        added = rw e;
+        written = written-made byteLimit (l .sender .queue) (l .sender .next) src dst out p did;
+        readBack = λ source destination some parser index room.
+            reads-back (readable-made src dst source destination byteLimit (l .sender .next) (l .sender .queue .bytes) (rw few at (did .numbers)) (rw few at some))
+            (made-fits byteLimit src dst (l .sender .next) (l .sender .queue .bytes) (le-refl byteLimit))
+            (data-numbered src dst (l .sender .next) _) index (rw count room) parser;
+      }
