@@ -34,7 +34,7 @@ begins : (s w : ℕ) (o : OrderedBytes) (marks : List Bool) (lengths store cells
 begins s w o marks lengths store cells calls p = record {
   payloads = [];
   gone = 0;
-  sender = sender-begins s w o marks lengths store cells (p .start);
+  sender = sender-begins s w o marks lengths store cells (omega (arith, p .start));
   receiver = receiver-begins s w o marks lengths store cells [] (p .new);
   acked = window-extends (omega arith) (window-begins s cells);
 }
@@ -175,8 +175,8 @@ emptied : {s : ℕ} {l : Link} (c : Call) → Keeps s l → Reads c → In 8 (re
 emptied (enqueue entries) v r h = absurd r
 emptied (pack src dst out) v r h = absurd r
 emptied (arrive parser datagram index packets) v r h = absurd r
-emptied (read len out) v r h = read-dry (v .receiver) len out r (one-8 _ h)
-emptied (read-pieces limit out list) v r h = read-pieces-dry (v .receiver) limit out list r (one-8 _ h)
+emptied (read len out) v r h = read-dry (v .receiver) len out (omega (arith, r)) (one-8 _ h)
+emptied (read-pieces limit out list) v r h = read-pieces-dry (v .receiver) limit out list (omega (arith, r)) (one-8 _ h)
 emptied peek v r h = absurd r
 emptied (insert n) v r h = absurd r
 emptied (insert-range base count) v r h = absurd r

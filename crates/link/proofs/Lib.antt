@@ -8,5 +8,6 @@ pub mod Window
 pub mod Covered
 pub mod Wrote
 pub mod Demand3
+pub mod Admits
 pub mod Sample
 pub mod WholeDatagram

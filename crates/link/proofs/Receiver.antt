@@ -398,7 +398,7 @@ unfolding In
 settles l (read len out) well asked = by (read-ends (l .receiver .buffer) well len out)
   where
     by : Ends (consuming (l .receiver .buffer) len out .said) → Settles l (read len out)
-    by (values v e) = lowers (rw e (consume-kept (l .receiver .buffer) len out well)) (rw e (consume-lowers (l .receiver .buffer) len out e asked))
+    by (values v e) = lowers (rw e (consume-kept (l .receiver .buffer) len out well)) (rw e (consume-lowers (l .receiver .buffer) len out e (omega (arith, asked))))
     by (eight e) = stops (inl (rw e (inl refl)))
     by (ten e) = stops (inr (rw e (inl refl)))
 settles l (read-pieces limit out list) well asked = by (read-pieces-ends (l .receiver .buffer) well limit out list)

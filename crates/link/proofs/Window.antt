@@ -18,7 +18,7 @@ use Rattle.window.proofs.Rises.{both, not-below, well-formed}
 use Rattle.window.proofs.Members.{among, member-append, member-numbers}
 use Rattle.window.proofs.Calls as calls
 use Rattle.receive.proofs.Twelve.{range-never}
-use Rattle.link.specs.Demand3.{WindowSide, entering, enteringRange, inserted, rangeInserted, expectsAfter, windowConsumed}
+use Rattle.link.specs.Demand3.{WindowSide, entering, enteringRange, inserted, rangeInserted, expectsAfter, windowConsumed, ExpectsFirst}
 use Rattle.link.proofs.Invariant.{WindowKeeps}
 
 -- ---- which numbers have entered
@@ -194,7 +194,7 @@ module _ {s f : ℕ} {d : WindowSide} (v : WindowKeeps s f d) where
       by o (calls.nothing q end) e = omega (arith, rw q at e)
 
 -- after a consume, also one that answers none, the window expects the first number that has not entered
-pub consume-first : {s f : ℕ} {d : WindowSide} → WindowKeeps s f d →
-    let e = windowConsumed d in
-    ((n : ℕ) → s ≤ n → n < e .expects → member n (e .entered) ≡ true) × (member (e .expects) (e .entered) ≡ false)
-consume-first v = (below-expected (consume-keeps v), consume-ends v)
+pub consume-first : {s f : ℕ} {d : WindowSide} → WindowKeeps s f d → ExpectsFirst s (windowConsumed d)
+consume-first v =
+    let after = consume-keeps v in
+    record { from = omega (arith, after .from, after .expects); below = below-expected after; absent = consume-ends v }

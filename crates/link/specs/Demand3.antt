@@ -386,6 +386,12 @@ pub record Wrote (l : Link) (src dst : ℕ) (out : List ℕ) (p : DataPacked) : 
   pub readBack : src < 2 ^ 32 → dst < 2 ^ 32 → 0 < p .packets
       → (parser : Parser) (index : List ℕ) → p .packets ≤ cellsIn index → ReadsBack parser (joined packets) packets index
 
+-- the window expects the first number from s on that has not entered
+pub record ExpectsFirst (s : ℕ) (d : WindowSide) : Type 0 where
+  pub from : s ≤ d .expects
+  pub below : (n : ℕ) → s ≤ n → n < d .expects → member n (d .entered) ≡ true
+  pub absent : member (d .expects) (d .entered) ≡ false
+
 -- some read of the list is refused with 8 or 10
 pub record Stops (l : Link) (calls : List Call) : Type 0 where
   pub on : Link
@@ -408,9 +414,7 @@ pub record Demand3 (s : ℕ) (first : Link) (calls : List Call) : Type 0 where
   -- "the window never passes what was taken"
   pub notPast : run first calls .acked .expects ≤ s + run first calls .receiver .counted
   -- where the list ends by consuming the window, it expects the first number that has not entered
-  pub atConsume : (before : List Call) → calls ≡ before ++ (consume-window ∷ [])
-      → ((n : ℕ) → s ≤ n → n < run first calls .acked .expects → member n (run first calls .acked .entered) ≡ true)
-      × (member (run first calls .acked .expects) (run first calls .acked .entered) ≡ false)
+  pub atConsume : (before : List Call) → calls ≡ before ++ (consume-window ∷ []) → ExpectsFirst s (run first calls .acked)
   -- what was made is what was written: so of every packing of the list that is not refused
   pub wrote : (on : Link) (src dst : ℕ) (out : List ℕ) (p : DataPacked) → Made-in first calls on (pack src dst out)
       → packing byteLimit (on .sender .queue) (on .sender .next) src dst out .0 ≡ answers p → Wrote on src dst out p

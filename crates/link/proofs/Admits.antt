@@ -1,0 +1,30 @@
+-- The premises of demand 3 let through what document 01 lets through.
+-- Assumes nothing.
+use Prim.Native.Nat.{ℕ}
+use mathlib.Core.Path.{_≡_, refl}
+use mathlib.Core.Bool.{true, false}
+use native.Mathlib.Omega.{arith}
+use Rattle.writer.specs.Packing.{payloadSize}
+use Rattle.link.specs.Demand3.{read, read-pieces}
+use Rattle.link.specs.Admits.{Admits}
+
+pub admits : Admits
+unfolding payloadSize
+admits = record {
+  enqueues = λ l entries. tt;
+  reads = λ l len out. tt;
+  readsPieces = λ l limit out list. tt;
+  peeks = λ l. tt;
+  consumes = λ l. tt;
+  reserves = λ l. tt;
+  packs = λ l src dst out before after. absurd (let z : _≡_ {A = ℕ} 0 1 = cc in omega arith);
+  packsNone = λ l src dst out none after. none;
+  arrives = λ l parser datagram index packets made among. (made, among);
+  madeEarlier = λ l p made given number payload. record { original = made; made = given; number = number; payload = payload };
+  insertsRange = λ l a given. given;
+  inserts = λ l a n given from below. record { ack = a; given = given; from = from; below = below };
+  begins = λ s w o marks lengths store cells calls start wide new fair. record { start = omega (arith, start); new = new; wide = omega (arith, wide); fair = fair };
+  empties = λ l before len out asked eight. record { before = before; last = read len out; list = refl; reads = omega (arith, asked); empty = eight };
+  emptiesPieces = λ l before limit out list asked eight. record { before = before; last = read-pieces limit out list; list = refl; reads = omega (arith, asked); empty = eight };
+  covers = λ s l payloads bytes rest accepted whole. record { payloads = payloads; accepted = accepted; start = record { rest = rest; whole = whole } };
+}
