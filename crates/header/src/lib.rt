@@ -52,8 +52,9 @@ const TYPES: [u8; 16] = [
     UNKNOWN,
 ];
 
-// The one place that says which types are known and which have a payload. The compiler builds the table anew wherever it is read, so a
-// loop takes it once, before its first step, and lends it to `row_in_unchecked`.
+// Every read learns from here which types are known and which have a payload. (A type number that a host gives for writing is compared with 7 in
+// crates/bluefin_c; its promise is by the table's rule.) The compiler builds the table anew wherever it is read, so a loop takes it once, before its
+// first step, and lends it to `row_in_unchecked`.
 pub fn type_table() -> [u8; 16]
     ensures { λ r. ⌜ TypeTable r ⌝ }
 {

@@ -1,5 +1,5 @@
 -- One step of the walk, by what stands at the cursor: what `look_at` has to show at each of its returns, and that one of them holds at every cursor.
--- Nothing else opens `payloadMissing`.
+-- No other law opens `payloadMissing`; the samples compute it.
 -- Assumes nothing.
 use Prim.Native.Nat.{ℕ, _+_, _-_, _<_, _≤_}
 use mathlib.Core.Path.{_≡_, refl}
