@@ -1,16 +1,15 @@
 // The ring of queued acks: records in a lent run of cells that is used round and round. Document 01, "The ring"; the Rust's utils/ring_buffer.rs.
 // The state is small and goes by value beside the lent cells, whose number is the capacity. Calls that touch no cell take the capacity alone.
 // Every decision is made by value, in covered functions; the calls over the lent cells only carry it out.
-// Proved: each call says, and leaves behind in state and cells, what its definition in specs/Ring.antt gives. proofs/Laws.antt relates these to the queue's records in order.
+// Proved: each call says, and leaves behind in state and cells, what its definition in specs/Ring.antt gives; `slot` and `popped_by` have theirs in specs/Places.antt.
+// proofs/Laws.antt relates these to the queue's records in order.
 use refusal::Refusal;
 ghost use mathlib.Core.Path.{_≡_};
-ghost use mathlib.Core.Bool.{true};
 ghost use mathlib.Core.List.{List};
-ghost use Prim.Native.Nat.{_+_, _%_, _<_, _≤_};
 ghost use lib.ListN.{length, getD, set};
-ghost use Rattle.ring_buffer.specs.Ring.{blank, fresh, wellFormed, popped, leaves, lenOf, isEmpty, isFull, pushBack, pushFront, popFront, front as frontOf, clear as clearOf};
+ghost use Rattle.ring_buffer.specs.Ring.{blank, fresh, wellFormed, leaves, lenOf, isEmpty, isFull, pushBack, pushFront, popFront, front as frontOf, clear as clearOf};
 ghost use Rattle.ring_buffer.specs.Says.{countedSays, testedSays, pushedSays, poppedSays, peekedSays, clearedSays, ringPushed, ringPopped, ringCleared};
-ghost use Rattle.ring_buffer.specs.Places.{backPlace, frontPlace, popPlace, clearTurns};
+ghost use Rattle.ring_buffer.specs.Places.{slotOf, poppedBy, backPlace, frontPlace, popPlace, clearTurns};
 
 // The Rust's worker/writer.rs, `AckData`; the count has document 01's 32 bits.
 #[repr(C)]
@@ -58,9 +57,9 @@ pub enum Cleared {
     Refused(Refusal),
 }
 
-// The i-th position from head on, round the end. The sum never passes the capacity, so it cannot overflow.
+// The i-th position from head on, round the end; the capacity, which is no cell, where head is none. The sum never passes the capacity, so it cannot overflow.
 pub fn slot(head: usize, capacity: usize, i: usize) -> usize
-    ensures { λ r. ⌜ (head < capacity → i ≤ capacity → r ≡ (head + i) % capacity) ⌝ }
+    ensures { λ r. ⌜ r ≡ slotOf head capacity i ⌝ }
 {
     if capacity <= head {
         return capacity;
@@ -137,9 +136,9 @@ pub fn is_full(ring: RingBuffer, capacity: usize) -> Tested
     }
 }
 
-// The ring once the k records in front are popped.
+// The ring once the k records in front are popped; the ring as it was where there are fewer.
 pub fn popped_by(ring: RingBuffer, capacity: usize, k: usize) -> RingBuffer
-    ensures { λ r. ⌜ (wellFormed ring capacity ≡ true → k ≤ ring .len → r ≡ popped ring capacity k) ⌝ }
+    ensures { λ r. ⌜ r ≡ poppedBy ring capacity k ⌝ }
 {
     let head = ring.head;
     let tail = ring.tail;

@@ -10,11 +10,12 @@ use ring_buffer::AckData;
 use ring_buffer::RingBuffer;
 ghost use mathlib.Core.Path.{_≡_};
 ghost use mathlib.Core.Bool.{true, _||_};
-ghost use Prim.Native.Nat.{_+_, _*_, _%_, _<_, _≤_};
+ghost use Prim.Native.Nat.{_+_, _*_, _≤_};
 ghost use lib.ListN.{length, take};
 ghost use lib.Seq.{paste};
 ghost use Rattle.header.specs.Header.{headerBytes};
 ghost use Rattle.ring_buffer.specs.Ring.{wellFormed, contents, blanked};
+ghost use Rattle.ring_buffer.specs.Places.{slotOf};
 ghost use Rattle.writer.specs.Acks.{ackHeader, ackBytes, tooLarge, anyTooLarge, acksSays, ringAfter, leaves, consumesAcks};
 ghost use Rattle.writer.specs.AckSteps.{malformed, due, decided, verdictSays, batch as batchOf, saying, leaving, Packable};
 
@@ -161,7 +162,7 @@ fn any_too_large(records: &[AckData], ring: RingBuffer, k: usize) -> bool
 
 // The cell of the batch's i-th ack.
 fn ack_slot(batch: AckBatch, capacity: usize, i: usize) -> usize
-    ensures { λ r. ⌜ (wellFormed (batch .ring) capacity ≡ true → i < batch .ring .len → r ≡ (batch .ring .head + i) % capacity) ⌝ }
+    ensures { λ r. ⌜ r ≡ slotOf (batch .ring .head) capacity i ⌝ }
 {
     let ring = batch.ring;
     let head = ring.head;

@@ -1,7 +1,7 @@
 -- `ring_buffer::back_answer` meets its contract. Assumes nothing.
 use mathlib.Core.Path.{sym, _∙_}
 use native.Mathlib.Omega.{arith}
-use Rattle.ring_buffer.proofs.Positions.{room, tail-in}
+use Rattle.ring_buffer.proofs.Positions.{slot-is, room, tail-in}
 use Rattle.ring_buffer.proofs.Cases.{says, back-malformed, back-full, back-stored}
 use borrow.Author.Needs.{needs}
 use Rattle.ring_buffer.proofs.back_answer.Statement.{statement}
@@ -31,7 +31,7 @@ returns-2 c ys e =
     let start = c .before .before .before .before .args in
     let w = sym (c .before .before .before .is-well-formed .ensures) ∙ c .before .before .if1 .taken in
     let fits = room (start .ring) (start .capacity) w in
-    let next = c .slot .ensures (tail-in (start .ring) (start .capacity) w (omega (arith, c .before .if2 .left))) (omega (arith, c .before .if2 .left)) in
+    let next = c .slot .ensures ∙ slot-is _ _ _ (tail-in (start .ring) (start .capacity) w (omega (arith, c .before .if2 .left))) (omega (arith, c .before .if2 .left)) in
     rw next (says (sym (back-stored (start .ring) ys (start .capacity) e w (c .before .if2 .left) (start .a))))
 
 returns-3 : tie.Need-returns-3

@@ -1,6 +1,6 @@
 -- `ring_buffer::clear` meets its contract: a walk of its MIR, by hand, with a loop, whose turn calls the covered `slot` and lends the slice again to `swap_record`. Assumes nothing.
 use mathlib.Core.Path.{_≡_, refl, ap, _∙_}
-use Prim.Native.Nat.{ℕ, _+_, _-_, _%_, _<_, _≤_, _^_, zero-le}
+use Prim.Native.Nat.{ℕ, _+_, _-_, _<_, _≤_, _^_, zero-le}
 use native.Mathlib.Nat.{le-antisymm, lt-of-le-of-lt}
 use native.Mathlib.Numerals.{add-one-le, add-one-dec}
 use mathlib.Core.WellFounded.{WellFounded, InvImage·wf}
@@ -48,13 +48,14 @@ use denote.Triple.Walked.{says, Stays, stay-slice, stay-none, walkOf, goes-slice
 use denote.Exit.{yes}
 use Rattle.ring_buffer.specs.Ring.{blank, blanked, clear}
 use Rattle.ring_buffer.specs.Says.{clearedSays, ringCleared}
-use Rattle.ring_buffer.specs.Places.{clearTurns}
+use Rattle.ring_buffer.specs.Places.{slotOf, clearTurns}
 use Rattle.ring_buffer.specs.declared.AckData.{AckData}
 use Rattle.ring_buffer.specs.declared.RingBuffer.{RingBuffer}
 use Rattle.ring_buffer.specs.declared.Cleared.{Cleared}
 use Rattle.ring_buffer.proofs.Again.{LentAgain, lends-at, back-at}
 use Rattle.ring_buffer.proofs.Blanked.{length-blanked, blanked-none, blanked-next}
 use Rattle.ring_buffer.proofs.Cases.{same-outcome, clear-cells, turns-in, turns-fit}
+use Rattle.ring_buffer.proofs.Positions.{slot-is}
 use Rattle.ring_buffer.proofs.Record.{R, thin, mach, ringv, blank-is, wt}
 use Rattle.ring_buffer.proofs.AckData as T
 use Rattle.ring_buffer.proofs.AckData.Laws as T′
@@ -95,7 +96,7 @@ stayed = (stay-none (λ _. G.the-row) yes, (stay-slice (0 ∷ []) tt (plain (λ 
 
 -- the promises of `slot` and of the answer
 abbrev Slotted : ℕ → ℕ → ℕ → ℕ → Type 0
-Slotted h n i r = h < n → i ≤ n → r ≡ (h + i) % n
+Slotted h n i r = r ≡ slotOf h n i
 
 abbrev Told : RingBuffer → ℕ → Cleared → Type 0
 Told g n r = (ys : List AckData) → length ys ≡ n → (clearedSays r ≡ clear g ys .said) × (ringCleared g r ≡ clear g ys .ring)
@@ -257,7 +258,7 @@ module _ {M : Type 1} (𝓤 : URA M) (H : Heap 𝓤) (A : Atoms 𝓤) (W : Given
           split ! $ move ! (1 ∷ []) $ heard ! ((r ≡ getD (bl (i .0)) j blank) × (zs .0 ≡ set (bl (i .0)) j blank)) (λ er. fsplit ! $ fsplit ! $ move ! (1 ∷ []) $ feqL ! (λ len.
           move ! (2 ∷ []) $ split ! $ move ! (1 ∷ []) $ facts ! R (Is R) (shows 𝓤 H A R) r (w ∷ []) (λ is-r.
           let inside = turns-in g n (i .0) lt in
-          let zs-is : zs .0 ≡ bl (i .0 + 1) = er .1 ∙ ap (λ (c : ℕ). set (bl (i .0)) c blank) (sj (inside .0) (inside .1)) ∙ blanked-next (g .head) ys (i .0) in
+          let zs-is : zs .0 ≡ bl (i .0 + 1) = er .1 ∙ ap (λ (c : ℕ). set (bl (i .0)) c blank) (sj ∙ slot-is (g .head) n (i .0) (inside .0) (inside .1)) ∙ blanked-next (g .head) ys (i .0) in
           -- [the call's token; the last list; …; what is kept; _12; …]
           land ! (from ! (stop !)) (init ! 10 refl (wt 𝓤 H A W r w is-r)) $
           split ! $ lft-end ! tt $ move ! (0 ∷ 4 ∷ 2 ∷ []) $

@@ -4,6 +4,7 @@ use lib.ListN.{getD}
 use mathlib.Core.Path.{sym, _∙_, ap}
 use native.Mathlib.Omega.{arith}
 use Rattle.ring_buffer.specs.Ring.{blank}
+use Rattle.ring_buffer.proofs.Positions.{popped-by-is}
 use Rattle.ring_buffer.proofs.Cases.{says, pop-malformed, pop-empty, pop-held, pop-place-is}
 use borrow.Author.Needs.{needs}
 use Rattle.ring_buffer.proofs.pop_answer.Statement.{statement}
@@ -26,7 +27,7 @@ returns-2 c ys e q =
     let start = c .before .before .before .before .args in
     let w = sym (c .before .before .before .is-well-formed .ensures) ∙ c .before .before .if1 .taken in
     let front = q ∙ ap (λ (i : ℕ). getD ys i blank) (pop-place-is (start .ring) (start .capacity) w (c .before .if2 .left)) in
-    let next = c .popped-by .ensures w (omega (arith, c .before .if2 .left)) in
+    let next = c .popped-by .ensures ∙ popped-by-is (start .ring) (start .capacity) w 1 (omega (arith, c .before .if2 .left)) in
     rw (next, front) (says (sym (pop-held (start .ring) ys (start .capacity) e w (c .before .if2 .left))))
 
 returns-3 : tie.Need-returns-3

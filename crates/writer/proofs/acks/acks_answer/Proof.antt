@@ -4,6 +4,7 @@ use native.Mathlib.Omega.{arith}
 use borrow.Author.Needs.{needs}
 use Rattle.refusal.specs.Said.{answers, refuses}
 use Rattle.ring_buffer.specs.Ring.{popped}
+use Rattle.ring_buffer.proofs.Positions.{popped-by-is}
 use Rattle.writer.specs.Acks.{ackCount, ackChecks, packed}
 use Rattle.writer.specs.AckSteps.{verdictSays, decided, saying, leaving}
 use Rattle.writer.specs.declared.acks.AcksPacked.{AcksPacked}
@@ -38,7 +39,7 @@ answered t q =
     let few = count-queued (a .ring) (a .used) in
     let w = ring-well (a .ring) (a .capacity) (a .used) (a .room) (pack-fine (a .ring) (a .capacity) (a .used) (a .room) (a .over) (told t)) in (
       ap answers q ∙ sym (packs (a .ring) (a .capacity) (a .used) (a .room) (a .over) (told t) refuses (answers (packed (a .ring) (a .used)))),
-      t .popped-by .ensures w (omega (arith, k-is, few)) ∙ ap (popped (a .ring) (a .capacity)) k-is
+      t .popped-by .ensures ∙ popped-by-is (a .ring) (a .capacity) w _ (omega (arith, k-is, few)) ∙ ap (popped (a .ring) (a .capacity)) k-is
           ∙ sym (packs (a .ring) (a .capacity) (a .used) (a .room) (a .over) (told t) (λ n. a .ring) (popped (a .ring) (a .capacity) (ackCount (a .ring) (a .used)))),
     )
 

@@ -1,6 +1,6 @@
 -- `writer::acks::any_too_large` meets its contract: a walk of its MIR, by hand, with a loop, whose turn calls the covered `slot` and `over_with`, and copies the shared slice to `record_at`. Assumes nothing.
-use mathlib.Core.Path.{_≡_, refl, sym, ap}
-use Prim.Native.Nat.{ℕ, _+_, _-_, _%_, _<_, _≤_, _^_, zero-le}
+use mathlib.Core.Path.{_≡_, refl, sym, ap, _∙_}
+use Prim.Native.Nat.{ℕ, _+_, _-_, _<_, _≤_, _^_, zero-le}
 use native.Mathlib.Nat.{le-antisymm, lt-of-le-of-lt}
 use native.Mathlib.Numerals.{add-one-le, add-one-dec}
 use native.Mathlib.Omega.{arith}
@@ -46,9 +46,10 @@ use denote.Triple.Table.{entered, cited}
 use denote.Triple.Walked.{says, Stays, stay-none-slice, stay-none, walkOf, goes-none-slice, goes-none, Walks, ends-at, walked, walk-meets}
 use denote.Exit.{yes}
 use Rattle.ring_buffer.specs.Ring.{blank, wellFormed, contents}
+use Rattle.ring_buffer.specs.Places.{slotOf}
 use Rattle.ring_buffer.specs.declared.AckData.{AckData}
 use Rattle.ring_buffer.specs.declared.RingBuffer.{RingBuffer}
-use Rattle.ring_buffer.proofs.Positions.{room as cells-enough, head-in}
+use Rattle.ring_buffer.proofs.Positions.{slot-queued}
 use Rattle.ring_buffer.proofs.Record.{R, ringv, wt}
 use Rattle.ring_buffer.proofs.AckData as T
 use Rattle.ring_buffer.proofs.AckData.Laws as T′
@@ -85,7 +86,7 @@ stayed = (stay-none-slice (0 ∷ []) tt (plain (λ _. R)) yes, (stay-none (λ _.
 
 -- the promise of `slot`
 abbrev Slotted : ℕ → ℕ → ℕ → ℕ → Type 0
-Slotted h n i r = h < n → i ≤ n → r ≡ (h + i) % n
+Slotted h n i r = r ≡ slotOf h n i
 
 module _ {M : Type 1} (𝓤 : URA M) (H : Heap 𝓤) (A : Atoms 𝓤) (mem : Memory → SProp 𝓤) (run : Routine → Fun 𝓤) where
   abbrev Slot : Contract 𝓤
@@ -232,9 +233,7 @@ module _ {M : Type 1} (𝓤 : URA M) (H : Heap 𝓤) (A : Atoms 𝓤) (W : Given
           calls-at ! fm (Ovr 𝓤 H A mem run) known-ovr (to-ovr t r w) (and-then ! (load ! (from ! (stop !)) (look ! 11 refl)) (and-then ! (load ! (from ! (stop !)) (look ! 5 refl)) (no-more !))) (λ u.
           use1 W (later (some (λ (z : Bool). (‵ ftrue ⊛ ‵ (bool .own z (u ∷ []))) ⊛ raw (ensured 𝓤 H A ovr.ended (ovr.clauses 𝓤 H A mem run) tt (t, (r, tt)) tt z)))) (id⊢ 𝓤 _) $ await ! tt $ pick ! (λ z.
           split ! $ move ! (1 ∷ []) $ use1 W (raw (fact 𝓤 (z ≡ (t || tooLarge r)))) (ovr-of 𝓤 H A mem run t r z) $ heard ! (z ≡ (t || tooLarge r)) (λ ez. split ! $ drop ! $ facts ! bool (Is bool) (shows 𝓤 H A bool) z (u ∷ []) (λ is-z.
-          let found : Found (i .0 + 1) z = λ w few.
-          let enough = cells-enough g n w in
-          scanned-next g ys w (i .0) j (omega arith) (sj (head-in g n w (omega arith)) (omega arith)) er (i .1 .1 .1 w few) ez in
+          let found : Found (i .0 + 1) z = λ w few. scanned-next g ys w (i .0) j (omega arith) (sj ∙ slot-queued g n w (i .0) (omega arith)) er (i .1 .1 .1 w few) ez in
           land ! (from ! (stop !)) (store ! 10 refl (bool-lawful 𝓤 H A W .typed z _ is-z .0)) $ rewrite ! 10 (λ (v : Val). ‵ (fat fullShare tyBool l₆ 0 v)) (ap only is-z) refl $
           assigns-last ! (bin ! (load ! (from ! (stop !)) (look ! 8 refl)) (lit ! tt) (record { fits = next-fits })) (from ! (stop !)) (store ! 8 refl (tt, record { fits = next-fits })) $
           forget ! 2 refl $ forget ! 4 refl $ forget ! 6 refl $

@@ -50,10 +50,12 @@ use denote.Triple.Walked.{says, needs, Stays, stay-slice, stay-none, walkOf, goe
 use denote.Exit.{yes}
 use Rattle.header.specs.Header.{headerBytes}
 use Rattle.ring_buffer.specs.Ring.{blank, wellFormed, contents, blanked}
+use Rattle.ring_buffer.specs.Places.{slotOf}
 use Rattle.ring_buffer.specs.declared.AckData.{AckData}
 use Rattle.ring_buffer.proofs.Again.{LentAgain, lends-at, back-at}
 use Rattle.ring_buffer.proofs.Blanked.{length-blanked, blanked-none, blanked-next}
 use Rattle.ring_buffer.proofs.Laws.{next-record}
+use Rattle.ring_buffer.proofs.Positions.{slot-queued}
 use Rattle.ring_buffer.proofs.Record.{R, thin, mach, blank-is, wt}
 use Rattle.ring_buffer.proofs.AckData as T
 use Rattle.ring_buffer.proofs.AckData.Laws as T′
@@ -101,7 +103,7 @@ pv p = LL.val P.the-type P′.the-laws p
 
 -- the promise of `ack_slot`, and what `put_ack` asks and promises
 abbrev Slotted : AckBatch → ℕ → ℕ → ℕ → Type 0
-Slotted p n i r = wellFormed (p .ring) n ≡ true → i < p .ring .len → r ≡ (p .ring .head + i) % n
+Slotted p n i r = r ≡ slotOf (p .ring .head) n i
 
 abbrev Asks : AckBatch → ℕ → AckData → List ℕ → Type 0
 Asks p i a out = (p .used + 20 * i + 20 ≤ length out) × (a .«num_packets_consumed» ≤ 65535)
@@ -193,12 +195,15 @@ module _ {M : Type 1} (𝓤 : URA M) (H : Heap 𝓤) (A : Atoms 𝓤) (W : Given
     enough : p .used + 20 * i + 20 ≤ m
     enough = let fits = packable (omega arith) .2 in omega arith
 
+    place : j ≡ (p .ring .head + i) % n
+    place = sj ∙ slot-queued (p .ring) n well i queued
+
     next-cleared : set (cl i) j blank ≡ cl (i + 1)
-    next-cleared = ap (λ (c : ℕ). set (cl i) c blank) (sj well queued) ∙ blanked-next (p .ring .head) ys i
+    next-cleared = ap (λ (c : ℕ). set (cl i) c blank) place ∙ blanked-next (p .ring .head) ys i
 
     module _ (r : AckData) (er : r ≡ getD (cl i) j blank) where
       front : r ≡ getD (contents (p .ring) ys) i blank
-      front = er ∙ ap (λ (c : ℕ). getD (cl i) c blank) (sj well queued) ∙ next-record (p .ring) ys well i queued
+      front = er ∙ ap (λ (c : ℕ). getD (cl i) c blank) place ∙ next-record (p .ring) ys well i queued
 
       asked : length (wr i) ≡ m → Asks p i r (wr i)
       asked len = (rw len enough, rw front (ack-small (p .ring) ys well k i lt (packable (omega arith) .1) (packable (omega arith) .3)))
