@@ -1,18 +1,32 @@
--- Laws of the close record over lists of calls. They are of the definitions that the calls' contracts cite.
+-- Laws of the close record's states, and of the record over lists of calls. They are of the definitions that the calls' contracts cite.
 -- Assumes nothing.
 use Prim.Native.Nat.{ℕ, _+_}
-use mathlib.Core.Path.{_≡_, refl, _∙_}
+use mathlib.Core.Path.{_≡_, refl, sym, ap, _∙_}
 use mathlib.Core.Bool.{Bool, true, false, cond}
 use mathlib.Core.List.{List, [], _∷_}
 use mathlib.Core.Option.{Option, none, some}
 use native.Mathlib.Omega.{arith}
 use lib.Dec.{eqb}
 use Rattle.close_handler.specs.Calls.{Call, fin, finAck, localFin, close, take, after, run, Without, isFin, isLocalFin, total, one, newly, becameOwed, answered, isOwed, lastAfter, lastOwed}
-use Rattle.close_handler.specs.Close.{owed, owing, fresh, finIn, localFinIn, afterFin, taken}
+use Rattle.close_handler.specs.Close.{stateSays, owed, owing, fresh, finIn, localFinIn, afterFin, taken}
 use Rattle.close_handler.specs.declared.CloseBuffer.{CloseBuffer}
 use Rattle.close_handler.specs.declared.CloseState.{CloseState}
 use Rattle.close_handler.specs.declared.CloseState.the-variants.{Active, PeerFinReceived, LocalFinSent, Closed}
 use Rattle.close_handler.specs.declared.FinNumber.the-variants.{Number}
+
+-- ---- a state is told by its number and its FIN's
+abbrev stateFrom : ℕ → Option ℕ → CloseState
+stateFrom k none = cond (eqb k 0) Active Closed
+stateFrom k (some n) = cond (eqb k 1) (PeerFinReceived n) (LocalFinSent n)
+
+state-back : (s : CloseState) → stateFrom (stateSays s .0) (stateSays s .1) ≡ s
+state-back Active = refl
+state-back (PeerFinReceived n) = refl
+state-back (LocalFinSent n) = refl
+state-back Closed = refl
+
+pub same-state : (s t : CloseState) → stateSays s ≡ stateSays t → s ≡ t
+same-state s t e = sym (state-back s) ∙ ap (λ (p : ℕ × Option ℕ). stateFrom (p .0) (p .1)) e ∙ state-back t
 
 -- ---- after Closed no call leaves Closed
 closed-step : (c : CloseBuffer) (k : Call) → c .state ≡ Closed → after c k .state ≡ Closed

@@ -1,4 +1,4 @@
--- Document 01, "Closing": what each event makes of a close record, and what is answered. The states are the paper's, by name.
+-- Document 01, "Closing": what each event makes of a close record, and what is answered. The states are the paper's, by name; where one is answered, by number.
 use Prim.Native.Nat.{ℕ}
 use mathlib.Core.Bool.{Bool, true, cond}
 use mathlib.Core.Option.{Option, none, some}
@@ -14,7 +14,17 @@ abbrev pub numberIn : FinNumber → Option ℕ
 numberIn Nothing = none
 numberIn (Number n) = some n
 
--- the FIN-ACK that is owed, and the one that is recorded
+-- "states Active, PeerFinReceived(n), LocalFinSent(n), Closed": 0 to 3 in this order, with none or the FIN's number
+abbrev pub stateSays : CloseState → ℕ × Option ℕ
+stateSays Active = (0, none)
+stateSays (PeerFinReceived n) = (1, some n)
+stateSays (LocalFinSent n) = (2, some n)
+stateSays Closed = (3, none)
+
+-- the state that a record is in, the FIN-ACK that is owed, and the one that is recorded
+abbrev pub stateOf : CloseBuffer → ℕ × Option ℕ
+stateOf c = stateSays (c .state)
+
 abbrev pub owed : CloseBuffer → Option ℕ
 owed c = numberIn (c .«pending_fin_ack_send»)
 

@@ -2,7 +2,7 @@
 // Each event is a transition by value, `after_..`; the Rust's call of that event is a thin function over it, and changes the record where it is lent.
 // Proved: what each call answers and the record that it leaves are the definition's. No call refuses.
 ghost use mathlib.Core.Path.{_≡_};
-ghost use Rattle.close_handler.specs.Close.{fresh, afterFin, afterFinAck, afterLocalFin, afterClosed, afterTake, numberIn, owed, recorded, taken};
+ghost use Rattle.close_handler.specs.Close.{fresh, afterFin, afterFinAck, afterLocalFin, afterClosed, afterTake, numberIn, stateSays, stateOf, owed, recorded, taken};
 
 pub enum CloseState {
     Active,
@@ -165,7 +165,7 @@ pub fn record_local_fin_sent(c: &mut CloseBuffer, n: u64)
 
 // net/close_handler.rs, CloseBuffer::state.
 pub fn state(c: &CloseBuffer) -> CloseState
-    ensures { λ r. ⌜ r ≡ now (c .entry) .state ⌝ }
+    ensures { λ r. ⌜ stateSays r ≡ stateOf (now (c .entry)) ⌝ }
 {
     c.state
 }

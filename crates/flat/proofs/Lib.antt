@@ -1,1 +1,2 @@
 pub mod Lasts
+pub mod CloseTrip

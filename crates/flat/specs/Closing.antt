@@ -1,11 +1,11 @@
 -- The close record as a host has it: the state's number and its FIN's, and for each FIN that may be absent a flag beside its number.
-use Prim.Native.Nat.{ℕ, zero, suc}
+use Prim.Native.Nat.{ℕ}
 use mathlib.Core.Bool.{Bool, true, false, cond}
 use mathlib.Core.List.{[], _∷_}
 use mathlib.Core.Option.{Option, none, some}
-use lib.Dec.{leb}
+use lib.Dec.{eqb, leb}
 use Rattle.refusal.specs.Said.{checks}
-use Rattle.close_handler.specs.Close.{owed, recorded, taken}
+use Rattle.close_handler.specs.Close.{stateSays, owed, recorded, taken}
 use Rattle.close_handler.specs.declared.CloseBuffer.{CloseBuffer}
 use Rattle.close_handler.specs.declared.CloseState.{CloseState}
 use Rattle.close_handler.specs.declared.CloseState.the-variants.{Active, PeerFinReceived, LocalFinSent, Closed}
@@ -15,29 +15,6 @@ use Rattle.flat.specs.declared.closing.CloseRecord.{CloseRecord}
 use Rattle.flat.specs.declared.closing.CloseAfter.{CloseAfter}
 use Rattle.flat.specs.declared.closing.FinAckTaken.{FinAckTaken}
 
--- "states Active, PeerFinReceived(n), LocalFinSent(n), Closed": 0 to 3 in this order; no call asks for another's
-abbrev pub stateIn : ℕ → ℕ → CloseState
-stateIn zero n = Active
-stateIn (suc zero) n = PeerFinReceived n
-stateIn (suc (suc zero)) n = LocalFinSent n
-stateIn (suc (suc (suc s))) n = Closed
-
-abbrev pub stateNumber : CloseState → ℕ
-stateNumber Active = 0
-stateNumber (PeerFinReceived n) = 1
-stateNumber (LocalFinSent n) = 2
-stateNumber Closed = 3
-
--- the state's FIN, or 0 where it has none
-abbrev pub stateFin : CloseState → ℕ
-stateFin Active = 0
-stateFin (PeerFinReceived n) = n
-stateFin (LocalFinSent n) = n
-stateFin Closed = 0
-
-abbrev pub finNumberIn : Bool → ℕ → FinNumber
-finNumberIn isThere n = cond isThere (Number n) Nothing
-
 abbrev pub isSome : Option ℕ → Bool
 isSome none = false
 isSome (some n) = true
@@ -45,6 +22,23 @@ isSome (some n) = true
 abbrev pub numberOr0 : Option ℕ → ℕ
 numberOr0 none = 0
 numberOr0 (some n) = n
+
+-- the state's number, and its FIN's, or 0 where it has none
+abbrev pub stateNumber : CloseState → ℕ
+stateNumber s = stateSays s .0
+
+abbrev pub stateFin : CloseState → ℕ
+stateFin s = numberOr0 (stateSays s .1)
+
+-- the state that has the number k, with the FIN n; no call asks for another number's
+abbrev pub stateIn : ℕ → ℕ → CloseState
+stateIn k n =
+    cond (eqb k (stateNumber Active)) Active
+    (cond (eqb k (stateNumber (PeerFinReceived n))) (PeerFinReceived n)
+    (cond (eqb k (stateNumber (LocalFinSent n))) (LocalFinSent n) Closed))
+
+abbrev pub finNumberIn : Bool → ℕ → FinNumber
+finNumberIn isThere n = cond isThere (Number n) Nothing
 
 -- the record that the numbers mean
 abbrev pub closeIn : CloseRecord → CloseBuffer
