@@ -21,6 +21,9 @@ const FEW: usize = 64;
 /// Packets accepted in a round where accepting alone is timed.
 const ACCEPTED: usize = 32;
 
+/// How often a packet that is held is offered here in a round.
+const REPEATED: u32 = 1_000;
+
 /// What both sides get: 1,000 packets of 100 datagrams.
 struct Arrivals {
     datagrams: Vec<Bytes>,
@@ -259,22 +262,31 @@ fn reads(table: &mut Table, arrivals: &Arrivals) {
     }
 }
 
-/// Accepting alone, where so many packets are held behind a hole at the front. All slots but those needed are the most.
-fn accepts(table: &mut Table, held: usize) {
-    let packet = |i: usize| BluefinPacket {
+/// The packet so many numbers behind the front's.
+fn packet_at(distance: usize) -> BluefinPacket {
+    BluefinPacket {
         header: header(
             PacketType::UnencryptedData,
             PAYLOAD as u16,
-            START + i as u64,
+            START + distance as u64,
         ),
         payload: Bytes::from(bytes(PAYLOAD)),
-    };
-    let before: Vec<_> = (1..=held).map(packet).collect();
-    let next: Vec<_> = (held + 1..).take(ACCEPTED).map(packet).collect();
-    let mut theirs = OrderedBytes::new(START);
-    their_accepts(&mut theirs, before.clone());
-    let mut ours = Lent::new(PAYLOAD, START);
-    our_accepts(&mut ours, &before);
+    }
+}
+
+/// Both buffers, with so many packets held behind a hole at the front.
+fn holding(held: usize) -> (OrderedBytes, Lent) {
+    let packets: Vec<_> = (1..=held).map(packet_at).collect();
+    let (mut theirs, mut ours) = (OrderedBytes::new(START), Lent::new(PAYLOAD, START));
+    our_accepts(&mut ours, &packets);
+    their_accepts(&mut theirs, packets);
+    (theirs, ours)
+}
+
+/// Accepting alone, where so many packets are held. All slots but those needed are the most.
+fn accepts(table: &mut Table, held: usize) {
+    let next: Vec<_> = (held + 1..).take(ACCEPTED).map(packet_at).collect();
+    let (theirs, mut ours) = holding(held);
     let (marks, lengths) = (ours.marks.clone(), ours.lengths.clone());
     table.row(Row {
         name: format!("accept alone, {held} held"),
@@ -295,6 +307,34 @@ fn accepts(table: &mut Table, held: usize) {
         ours.held(held + ACCEPTED),
         Some(&next[ACCEPTED - 1].payload[..])
     );
+}
+
+/// A packet that is held already, and refused: the state stays. The published Rust writes every byte that it holds into the error, so
+/// that a round has one packet there.
+fn repeats(table: &mut Table, held: usize) {
+    let packet = packet_at(held);
+    let (mut theirs, mut ours) = holding(held);
+    let before = ours.clone();
+    assert!(theirs.buffer_in_packet(packet.clone()).is_err());
+    table.row(Row {
+        name: format!("accept a packet that is held already, {held} held"),
+        units: 1,
+        theirs: Box::new(|| {
+            let packet = packet.clone();
+            timed(|| theirs.buffer_in_packet(packet))
+        }),
+        ours: Box::new(|| {
+            let took = timed(|| {
+                for _ in 0..REPEATED {
+                    black_box(ours.accept(packet.header.packet_number, &packet.payload));
+                }
+            });
+            took / REPEATED
+        }),
+        goal: None,
+    });
+    assert_eq!(ours.accept(packet.header.packet_number, &packet.payload), 7);
+    assert!(ours == before);
 }
 
 /// What accepting cannot do without here: the test of refusal 12, which `peek` has and little else, and the copy.
@@ -329,6 +369,9 @@ pub fn rows(table: &mut Table) {
     table.group("accept, as packets held grow");
     for held in [10, 100, 1_000, SLOTS - 1 - ACCEPTED] {
         accepts(table, held);
+    }
+    for held in [10, SLOTS - 1] {
+        repeats(table, held);
     }
     floor(table, &arrivals);
 }

@@ -45,6 +45,13 @@ fn shown(ns: f64) -> String {
     }
 }
 
+fn shown_ratio(ratio: f64) -> String {
+    match ratio {
+        ratio if ratio < 0.005 => "< 0.01".into(),
+        ratio => format!("{ratio:.2}"),
+    }
+}
+
 impl Table {
     pub fn new(long: Duration) -> Self {
         Table {
@@ -79,10 +86,11 @@ impl Table {
             }
         };
         let line = format!(
-            "| {} | {} | {} | {ratio:.2} | {goal} | {met} |",
+            "| {} | {} | {} | {} | {goal} | {met} |",
             row.name,
             shown(theirs),
-            shown(ours)
+            shown(ours),
+            shown_ratio(ratio)
         );
         eprintln!("{line}");
         self.lines.push(line);
