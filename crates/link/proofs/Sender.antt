@@ -19,7 +19,7 @@ use Rattle.packet.specs.Packet.{Packet}
 use Rattle.writer.specs.Packing.{packing, byteLimit, bytesTaken, packetsFor, payloadsOf, numbered, removed, sum}
 use Rattle.writer.specs.Reserve.{reserving}
 use Rattle.writer.specs.declared.DataPacked.{DataPacked}
-use Rattle.writer.proofs.Made.{payloads-joined, count-payloads, payload-some, remaining-adds-up}
+use Rattle.writer.proofs.Made.{payloads-joined, count-payloads, payload-some, dequeued-adds-up}
 use Rattle.ordered_bytes.specs.declared.OrderedBytes.{OrderedBytes}
 use Rattle.link.specs.Demand3.{SenderSide, Link, fresh, enqueued, packedBy, packed, reservedBy, In, All, MadeEarlier, Made}
 use Rattle.link.proofs.All.{all-append, all-getD}
@@ -208,7 +208,7 @@ module _ {s : ℕ} {payloads : List (List ℕ)} {d : SenderSide} (v : SenderKeep
               made = rw (map-append, v .made, keys-numbered, numberedFrom-append) (ap (λ (r : List (ℕ × List ℕ)). numberedFrom s payloads ++ r) next);
               filled = all-append _ payloads more (v .filled) (payloads-filled byteLimit bytes);
               stream = rw (flatten-append, payloads-joined, append-assoc, take-append-drop) (v .stream);
-              addsUp = remaining-adds-up byteLimit (d .queue) (v .addsUp);
+              addsUp = dequeued-adds-up byteLimit (d .queue) (d .next) (v .addsUp);
               unclosed = λ c. rw (v .unclosed c, length-append, count-payloads) (omega arith);
               above = rw (length-append, count-payloads) (omega arith);
               fits = h;

@@ -7,14 +7,14 @@ use mathlib.Core.Logic.{_⊎_}
 use mathlib.Core.Bool.{Bool, true, false, cond}
 use mathlib.Core.Option.{Option, none, some}
 use mathlib.Core.List.{List, [], _∷_, _++_, map, flatten}
-use lib.ListN.{length, take, drop}
+use lib.ListN.{length, take}
 use lib.Dec.{eqb}
 use Rattle.refusal.specs.Said.{Said, answers, refuses, refusesAt, refusalIn}
 use Rattle.lists.specs.Numbers.{largest}
 use Rattle.header.specs.Types.{typeNumber}
 use Rattle.packet.specs.Packet.{Packet, joined}
 use Rattle.packet.specs.Datagram.{parses, parsesInto, cellsIn, cellsWritten, listed}
-use Rattle.writer.specs.Packing.{Queue, packing, packetsMade, shortened, byteLimit, payloadSize}
+use Rattle.writer.specs.Packing.{Queue, packing, packetsMade, dequeued, byteLimit, payloadSize}
 use Rattle.writer.specs.Reserve.{reserving}
 use Rattle.writer.specs.declared.DataPacked.{DataPacked}
 use Rattle.ordered_bytes.specs.Buffer.{Buffer}
@@ -108,10 +108,6 @@ enqueued entries d = record {
   made = d .made;
   closing = d .closing;
 }
-
--- "each packing removes exactly what it answers"
-abbrev pub dequeued : DataPacked → Queue → Queue
-dequeued p q = record { bytes = drop (p .bytes) (q .bytes); lengths = shortened (p .«bytes_cut») (drop (p .«entries_removed») (q .lengths)) }
 
 abbrev pub packedBy : Said DataPacked → ℕ → ℕ → SenderSide → SenderSide
 packedBy (answers p) src dst d = record {

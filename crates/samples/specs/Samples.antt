@@ -13,7 +13,8 @@ use Rattle.header.specs.declared.BluefinHeader.{BluefinHeader}
 use Rattle.packet.specs.Datagram.{parses}
 use Rattle.ring_buffer.specs.declared.AckData.{AckData}
 use Rattle.ring_buffer.specs.declared.RingBuffer.{RingBuffer}
-use Rattle.writer.specs.Packing.{Queue, packing, payloadsOf, remaining, byteLimit}
+use Rattle.writer.specs.Packing.{Queue, packing, payloadsOf, dequeued, byteLimit}
+use Rattle.writer.specs.declared.DataPacked.{DataPacked}
 use Rattle.writer.specs.Acks.{consumesAcks}
 use Rattle.window.specs.Window.{window, insertPacketNumber, insertRange}
 use Rattle.window.specs.declared.SlidingWindow.{SlidingWindow}
@@ -35,6 +36,9 @@ index = replicate 6 99
 -- the bytes of one entry of 15,001
 abbrev pub longQueue : Queue
 longQueue = record { bytes = replicate 15001 0; lengths = 15001 ∷ [] }
+
+abbrev pub longPacked : DataPacked
+longPacked = record { bytes = 15000; packets = 10; «next_packet_num» = 10; «entries_removed» = 0; «bytes_cut» = 15000 }
 
 -- a full ring of one ack
 abbrev pub oneAck : RingBuffer
@@ -76,9 +80,8 @@ pub record Samples : Type 0 where
   -- "queue 1,499 and 2: payloads 1,500, 1."
   pub two-payloads : map length (payloadsOf byteLimit (replicate 1499 1 ++ replicate 2 2)) ≡ 1500 ∷ 1 ∷ []
   -- "15,001: ten packets, 1 byte left."
-  pub ten-packets : packing byteLimit longQueue 0 1 2 (replicate 15200 0) .0
-      ≡ answers (record { bytes = 15000; packets = 10; «next_packet_num» = 10; «entries_removed» = 0; «bytes_cut» = 15000 })
-  pub one-left : remaining byteLimit longQueue ≡ record { bytes = 0 ∷ []; lengths = 1 ∷ [] }
+  pub ten-packets : packing byteLimit longQueue 0 1 2 (replicate 15200 0) .0 ≡ answers longPacked
+  pub one-left : dequeued longPacked longQueue ≡ record { bytes = 0 ∷ []; lengths = 1 ∷ [] }
   -- "used 15,180: one ack; 15,181: none, yes"
   pub room-for-one : consumesAcks oneAck ackCell 15180 1 2 (replicate 15200 0) .said ≡ answers (record { acks = 1; «to_send» = true })
   pub room-for-none : consumesAcks oneAck ackCell 15181 1 2 (replicate 15200 0) .said ≡ answers (record { acks = 0; «to_send» = true })

@@ -17,7 +17,7 @@ use Rattle.packet.specs.Packet.{Packet, joined}
 use Rattle.packet.specs.Datagram.{readingLimit, cellsIn, parsed, parses, listed}
 use Rattle.packet.proofs.Trip.{Honest, Readable, last, before, parsed-joined, listed-joined}
 use Rattle.writer.specs.declared.DataPacked.{DataPacked}
-use Rattle.writer.specs.Packing.{Queue, payloadSize, byteLimit, bytesTaken, packetsFor, cut, payloadsOf, dataPacket, numbered, packetsMade, removal, removed, shortened, remaining, sum, packing}
+use Rattle.writer.specs.Packing.{Queue, payloadSize, byteLimit, bytesTaken, packetsFor, cut, payloadsOf, dataPacket, numbered, packetsMade, removal, removed, shortened, dequeued, sum, packing}
 use Rattle.writer.proofs.Run.{packets-zero, packets-suc, length-run}
 
 -- ---- any list of bytes, cut into as many payloads as it fills
@@ -168,17 +168,21 @@ module _ (src dst : ℕ) (source : src < 2 ^ 32) (destination : dst < 2 ^ 32) wh
 
 -- ---- a packing that was not refused
 
+-- what it answers
+abbrev pub answer : ℕ → Queue → ℕ → DataPacked
+answer limit queue next = record {
+  bytes = taken limit (queue .bytes);
+  packets = packets limit (queue .bytes);
+  «next_packet_num» = next + packets limit (queue .bytes);
+  «entries_removed» = removed limit queue .0;
+  «bytes_cut» = removed limit queue .1;
+}
+
 pub record Answered (limit : ℕ) (queue : Queue) (next src dst : ℕ) (out : List ℕ) (d : DataPacked) : Type 0 where
   pub add-up : sum (queue .lengths) ≡ length (queue .bytes)
   pub numbers : next + d .packets ≤ largest
   pub room : d .bytes + 20 * d .packets ≤ length out
-  pub said : d ≡ record {
-    bytes = taken limit (queue .bytes);
-    packets = packets limit (queue .bytes);
-    «next_packet_num» = next + packets limit (queue .bytes);
-    «entries_removed» = removed limit queue .0;
-    «bytes_cut» = removed limit queue .1;
-  }
+  pub said : d ≡ answer limit queue next
   pub left : packing limit queue next src dst out .1 ≡ paste out 0 (joined (packetsMade limit src dst next (queue .bytes))) (d .bytes + 20 * d .packets)
 
 module _ (limit : ℕ) (queue : Queue) (next src dst : ℕ) (out : List ℕ) (d : DataPacked) where
@@ -193,7 +197,7 @@ module _ (limit : ℕ) (queue : Queue) (next src dst : ℕ) (out : List ℕ) (d 
       p = packets limit (queue .bytes)
 
       all : DataPacked
-      all = record { bytes = q; packets = p; «next_packet_num» = next + p; «entries_removed» = removed limit queue .0; «bytes_cut» = removed limit queue .1 }
+      all = answer limit queue next
 
       pasted : List ℕ
       pasted = paste out 0 (joined (packetsMade limit src dst next (queue .bytes))) (q + 20 * p)
@@ -272,11 +276,12 @@ sum-left (suc q) (l ∷ ls) h = by (λ k. sum-left (suc q - l) ls k) (leb l (suc
         let stays : suc q < l = leb-false l (suc q) e in
         omega arith
 
-module _ (limit : ℕ) (queue : Queue) where
+module _ (limit : ℕ) (queue : Queue) (next : ℕ) where
   -- the lengths left add up to the bytes left
-  pub remaining-adds-up : sum (queue .lengths) ≡ length (queue .bytes) → sum (remaining limit queue .lengths) ≡ length (remaining limit queue .bytes)
+  pub dequeued-adds-up : sum (queue .lengths) ≡ length (queue .bytes)
+      → sum (dequeued (answer limit queue next) queue .lengths) ≡ length (dequeued (answer limit queue next) queue .bytes)
   unfolding sum shortened
-  remaining-adds-up h = by (ltb (length (queue .bytes)) limit) refl
+  dequeued-adds-up h = by (ltb (length (queue .bytes)) limit) refl
     where
       q : ℕ
       q = bytesTaken limit (length (queue .bytes))

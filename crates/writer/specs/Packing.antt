@@ -79,11 +79,8 @@ shortened n [] = []
 shortened n (l ∷ ls) = (l - n) ∷ ls
 
 -- "each packing removes exactly what it answers": the queue that it leaves
-abbrev pub remaining : ℕ → Queue → Queue
-remaining limit queue = record {
-  bytes = drop (bytesTaken limit (length (queue .bytes))) (queue .bytes);
-  lengths = shortened (removed limit queue .1) (drop (removed limit queue .0) (queue .lengths));
-}
+abbrev pub dequeued : DataPacked → Queue → Queue
+dequeued p q = record { bytes = drop (p .bytes) (q .bytes); lengths = shortened (p .«bytes_cut») (drop (p .«entries_removed») (q .lengths)) }
 
 unfoldable pub sum : List ℕ → ℕ
 sum [] = 0
