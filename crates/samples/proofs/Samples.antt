@@ -8,9 +8,10 @@ use mathlib.Core.Option.{none}
 use lib.ListN.{replicate}
 use Rattle.refusal.specs.Said.{answers, refuses, checks}
 use Rattle.header.specs.Header.{headerBytes}
-use Rattle.packet.specs.Datagram.{readingLimit, payloadMissing, walkBy, packetsOf, flat, parsed}
+use Rattle.packet.specs.Packet.{joined}
+use Rattle.packet.specs.Datagram.{readingLimit, payloadMissing, walkBy, packetsOf, flat, parsed, listed}
 use Rattle.ring_buffer.specs.Ring as ring
-use Rattle.writer.specs.Packing.{payloadSize, byteLimit, cut, removal, shortened, sum, packing}
+use Rattle.writer.specs.Packing.{payloadSize, byteLimit, cut, numbered, removal, shortened, sum, packing}
 use Rattle.writer.specs.Acks.{datagramLimit, anyTooLarge, consumesAcks}
 use Rattle.window.specs.Window.{member, rising, allHoldable, wellFormed, place, numbers, insertPacketNumber, beforeHeld, insertRange}
 use Rattle.ordered_bytes.specs.Receiver.{Receiver, acceptChecks, walk, consumed, numbersFit}
@@ -49,13 +50,17 @@ empty-means : buffer.view (emptyBuffer 2000 1) ≡ empty
 empty-means = view-fresh 1 100 (replicate 2000 false) (replicate 2000 0) (replicate 2001 0)
 
 pub samples : Samples
-unfolding headerBytes readingLimit payloadMissing walkBy packetsOf flat parsed payloadSize byteLimit cut removal shortened sum packing datagramLimit anyTooLarge consumesAcks member rising allHoldable wellFormed place numbers insertPacketNumber beforeHeld insertRange walk consumed numbersFit buffer.view buffer.allWithin buffer.wellFormed accepting consuming
+unfolding headerBytes joined readingLimit payloadMissing walkBy packetsOf flat parsed listed payloadSize byteLimit cut numbered removal shortened sum
+    packing datagramLimit anyTooLarge consumesAcks member rising allHoldable wellFormed place numbers insertPacketNumber beforeHeld insertRange
+    walk consumed numbersFit buffer.view buffer.allWithin buffer.wellFormed accepting consuming
 samples = record {
   data-header = refl;
   security-byte = refl;
   type-seven = refl;
   empty-data-alone = refl;
   empty-data-before-ack = refl;
+  two-packed = refl;
+  two-read = refl;
   two-payloads = refl;
   ten-packets = refl;
   one-left = refl;

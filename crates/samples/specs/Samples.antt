@@ -4,16 +4,17 @@ use Prim.Native.Nat.{ℕ, _+_, _*_}
 use mathlib.Core.Path.{_≡_}
 use mathlib.Core.Bool.{true, false}
 use mathlib.Core.List.{List, [], _∷_, _++_, map}
-use lib.ListN.{length, replicate}
+use lib.ListN.{replicate}
 use Rattle.refusal.specs.Said.{Said, answers, refuses, refusesAt}
 use Rattle.header.specs.Header.{headerBytes, headerOf, withNumber, serialisesSecurity, serialisesInto, deserialises}
 use Rattle.header.specs.declared.PacketType.{PacketType}
 use Rattle.header.specs.declared.PacketType.the-variants.{UnencryptedData, Ack}
 use Rattle.header.specs.declared.BluefinHeader.{BluefinHeader}
-use Rattle.packet.specs.Datagram.{parses}
+use Rattle.packet.specs.Packet.{Packet}
+use Rattle.packet.specs.Datagram.{parses, listed}
 use Rattle.ring_buffer.specs.declared.AckData.{AckData}
 use Rattle.ring_buffer.specs.declared.RingBuffer.{RingBuffer}
-use Rattle.writer.specs.Packing.{Queue, packing, payloadsOf, dequeued, byteLimit}
+use Rattle.writer.specs.Packing.{Queue, packing, dequeued, byteLimit}
 use Rattle.writer.specs.declared.DataPacked.{DataPacked}
 use Rattle.writer.specs.Acks.{consumesAcks}
 use Rattle.window.specs.Window.{window, insertPacketNumber, insertRange}
@@ -33,9 +34,16 @@ dataHeaderBytes = 3 ∷ 0 ∷ 5 ∷ 0 ∷ 0 ∷ 0 ∷ 0 ∷ 1 ∷ 0 ∷ 0 ∷ 0 
 abbrev pub index : List ℕ
 index = replicate 6 99
 
--- the bytes of one entry of 15,001
+-- an entry of 1,499 bytes and one of 2, and what packing them from number 7 on leaves in the output
+abbrev pub twoEntries : Queue
+twoEntries = record { bytes = replicate 1499 1 ++ (2 ∷ 3 ∷ []); lengths = 1499 ∷ 2 ∷ [] }
+
+abbrev pub twoPackets : List ℕ
+twoPackets = packing byteLimit twoEntries 7 1 2 (replicate 1541 0) .1
+
+-- one entry of 15,001 bytes, and the answer when it is packed from number 0 on
 abbrev pub longQueue : Queue
-longQueue = record { bytes = replicate 15001 0; lengths = 15001 ∷ [] }
+longQueue = record { bytes = replicate 15000 1 ++ (2 ∷ []); lengths = 15001 ∷ [] }
 
 abbrev pub longPacked : DataPacked
 longPacked = record { bytes = 15000; packets = 10; «next_packet_num» = 10; «entries_removed» = 0; «bytes_cut» = 15000 }
@@ -78,18 +86,21 @@ pub record Samples : Type 0 where
   -- "with a 20-byte ack after it: two packets"
   pub empty-data-before-ack : _≡_ {A = Said ℕ × List ℕ} (parses (headerBytes (plain UnencryptedData 0 7) ++ headerBytes (plain Ack 3 9)) index) (answers 2, 0 ∷ 0 ∷ 20 ∷ 0 ∷ 99 ∷ 99 ∷ [])
   -- "queue 1,499 and 2: payloads 1,500, 1."
-  pub two-payloads : map length (payloadsOf byteLimit (replicate 1499 1 ++ replicate 2 2)) ≡ 1500 ∷ 1 ∷ []
+  pub two-packed : packing byteLimit twoEntries 7 1 2 (replicate 1541 0) .0
+      ≡ answers (record { bytes = 1501; packets = 2; «next_packet_num» = 9; «entries_removed» = 2; «bytes_cut» = 0 })
+  pub two-read : _≡_ {A = Said ℕ × List ℕ} (parses twoPackets index) (answers 2, 0 ∷ 1500 ∷ 1520 ∷ 1 ∷ 99 ∷ 99 ∷ [])
+  pub two-payloads : map (λ (p : Packet). p .payload) (listed twoPackets (parses twoPackets index .1) 2) ≡ (replicate 1499 1 ++ (2 ∷ [])) ∷ (3 ∷ []) ∷ []
   -- "15,001: ten packets, 1 byte left."
   pub ten-packets : packing byteLimit longQueue 0 1 2 (replicate 15200 0) .0 ≡ answers longPacked
-  pub one-left : dequeued longPacked longQueue ≡ record { bytes = 0 ∷ []; lengths = 1 ∷ [] }
+  pub one-left : dequeued longPacked longQueue ≡ record { bytes = 2 ∷ []; lengths = 1 ∷ [] }
   -- "used 15,180: one ack; 15,181: none, yes"
   pub room-for-one : consumesAcks oneAck ackCell 15180 1 2 (replicate 15200 0) .said ≡ answers (record { acks = 1; «to_send» = true })
   pub room-for-none : consumesAcks oneAck ackCell 15181 1 2 (replicate 15200 0) .said ≡ answers (record { acks = 0; «to_send» = true })
   -- "window from 10 with 12: range 10, count 5 stores 10, 11, answers 7."
   pub range-stops : _≡_ {A = Said Unit × SlidingWindow × List ℕ} (insertRange (window 10 1) (12 ∷ 0 ∷ 0 ∷ 0 ∷ []) 10 5) (refuses 7, window 10 3, 10 ∷ 11 ∷ 12 ∷ 0 ∷ [])
   -- "40,009 accepted, 40,010 is 6"
-  pub window-last : _≡_ {A = Said Unit × SlidingWindow × List ℕ} (insertPacketNumber (window 10 0) (0 ∷ []) 40009) (answers tt, window 10 1, 40009 ∷ [])
-  pub window-past : insertPacketNumber (window 10 0) (0 ∷ []) 40010 .0 ≡ refuses 6
+  pub window-last : _≡_ {A = Said Unit × SlidingWindow × List ℕ} (insertPacketNumber (window 10 1) (12 ∷ 0 ∷ []) 40009) (answers tt, window 10 2, 12 ∷ 40009 ∷ [])
+  pub window-past : _≡_ {A = Said Unit × SlidingWindow × List ℕ} (insertPacketNumber (window 10 1) (12 ∷ 0 ∷ []) 40010) (refuses 6, window 10 1, 12 ∷ 0 ∷ [])
   -- "buffer of 2,000 slots from 100: 2,099 accepted, 2,100 is 6"
   pub buffer-last : accepting (emptyBuffer 2000 1) 2099 [] .said ≡ answers tt
   pub buffer-past : accepting (emptyBuffer 2000 1) 2100 [] .said ≡ refuses 6
