@@ -1,1 +1,10 @@
 pub mod Samples
+pub mod HeaderRows
+pub mod PacketRows
+pub mod WriterRows
+pub mod RingRows
+pub mod WindowRows
+pub mod BufferRows
+pub mod CloseRows
+pub mod ReceiveRows
+pub mod Boundaries

@@ -1,1 +1,13 @@
 pub mod Samples
+pub mod Inputs
+pub mod HeaderRows
+pub mod PacketRows
+pub mod WriterRows
+pub mod RingRows
+pub mod AckRows
+pub mod WindowRows
+pub mod BufferRows
+pub mod ReadRows
+pub mod CloseRows
+pub mod ReceiveRows
+pub mod Boundaries
