@@ -9,7 +9,7 @@
  * Two threads may call at once, on memory of their own.
  *
  * Answers. `refusal` is 0, or the number of the refusal; the answer's other numbers are then 0. A state in an answer is the one to go on with,
- * refused or not. Where a call is refused, lent memory stays as it was, unless the call says otherwise.
+ * refused or not, and so is the count of a listing. Where a call is refused, lent memory stays as it was, unless the call says otherwise.
  * A cursor comes with 1 to 4: it is the byte of the datagram at which the walk stopped.
  */
 #ifndef BLUEFIN_H
@@ -84,7 +84,7 @@ bluefin_header_read bluefin_header_deserialise(const uint8_t *bytes, size_t byte
 /* ---- packets and datagrams */
 
 typedef struct {
-    size_t packets;
+    size_t packets; /* packets that stand in the index, refused or not */
     size_t cursor;
     uint8_t refusal;
 } bluefin_parsed;
@@ -98,8 +98,8 @@ bluefin_header_read bluefin_packet_deserialise(const uint8_t *bytes, size_t byte
 /*
  * Lists the packets of a datagram of up to 65,527 bytes: for each, two numbers of the index, its header's offset and its payload's length.
  * index_len counts those numbers, twice as many as packets; 6,552 have room for every datagram. Numbers after those of the packets stay.
- * Refusals: 11, 1, and for each packet 4, 2, 10, at the end 3. `from_bytes` then leaves the index as it was; `from_bytes_into` leaves the
- * packets before the refusal listed.
+ * Refusals: 11, 1, and for each packet 4, 2, 10, at the end 3. `from_bytes` then leaves the index as it was, and answers 0 packets;
+ * `from_bytes_into` leaves the packets before the refusal listed, and answers how many they are.
  */
 bluefin_parsed bluefin_from_bytes(const uint8_t *datagram, size_t datagram_len, uint32_t *index, size_t index_len);
 bluefin_parsed bluefin_from_bytes_into(const uint8_t *datagram, size_t datagram_len, uint32_t *index, size_t index_len);
@@ -172,8 +172,8 @@ bluefin_consumed_bytes bluefin_ordered_bytes_consume_bytes(bluefin_ordered_bytes
 /*
  * A whole datagram: lists its packets as `bluefin_from_bytes_into` does, and accepts each data packet listed as
  * `bluefin_ordered_bytes_buffer_in_packet` does, in order, with one test of 12 for all. The i-th number of `answers` is what accepting the
- * i-th packet answered; numbers of other packets stay. Refusals: 12, 10 (fewer answers than the index has room for packets: nothing is
- * written), then those of the listing, with the packets listed before them accepted all the same.
+ * i-th packet answered; numbers of other packets stay. Refusals: 12, 10 (fewer answers than the index has room for packets), with nothing
+ * written and 0 packets; then those of the listing, with the packets listed before them accepted and counted all the same.
  */
 bluefin_parsed bluefin_receive(bluefin_ordered_bytes o, const uint8_t *datagram, size_t datagram_len, uint32_t *index, size_t index_len,
                                uint8_t *answers, size_t answers_len, bool *marks, size_t marks_len, uint32_t *lengths, size_t lengths_len,
@@ -202,7 +202,7 @@ typedef struct {
 
 typedef struct {
     bluefin_window window;
-    size_t packets;
+    size_t packets; /* packets that stand in the index, refused or not */
     size_t cursor;
     uint8_t refusal;
 } bluefin_acks_received;

@@ -256,7 +256,11 @@ int main(void) {
     EXPECT(parsed.refusal == 0);
     printf("parsed %zu packets of %zu bytes\n", parsed.packets, length);
     bluefin_parsed cut = bluefin_from_bytes(datagram, length - 1, index_cells, 2 * PACKETS);
-    printf("a byte less: refused %d at %zu\n", cut.refusal, cut.cursor);
+    EXPECT(cut.packets == 0);
+    bluefin_parsed kept = bluefin_from_bytes_into(datagram, length - 1, index_cells, 2 * PACKETS);
+    EXPECT(kept.refusal == cut.refusal && kept.cursor == cut.cursor);
+    printf("a byte less: refused %d at %zu, %zu packets before it\n", kept.refusal, kept.cursor, kept.packets);
+    EXPECT(bluefin_from_bytes_into(datagram, length, index_cells, 3).packets == 1);
     EXPECT(bluefin_from_bytes(NULL, 0, NULL, 0).refusal == BLUEFIN_SHORT);
 
     start_buffer(&b);

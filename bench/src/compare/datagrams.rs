@@ -1,6 +1,6 @@
 //! Random datagrams, written byte by byte, and how both sides take them apart.
 
-use crate::packet::{cells, index_for, BLANK};
+use crate::packet::{cells, index_for};
 use bluefin::sys;
 use bluefin_proto::error::BluefinError;
 use bytes::Bytes;
@@ -35,7 +35,7 @@ pub fn spoil(datagram: &mut Vec<u8>, rng: &mut Xorshift) {
     }
 }
 
-/// What a listing and the packets listed were answered.
+/// What a listing and the packets listed were answered. `packets` stand in the index, refused or not.
 #[derive(PartialEq, Debug)]
 pub struct Told {
     pub refusal: u8,
@@ -85,10 +85,8 @@ pub fn by_many_calls(
             room.index.len(),
         )
     };
-    for (cell, answer) in room.index.chunks_exact(2).zip(&mut room.answers) {
-        if cell[0] == BLANK {
-            break;
-        }
+    let listed = room.index.chunks_exact(2).take(parsed.packets);
+    for (cell, answer) in listed.zip(&mut room.answers) {
         let packet = &datagram[cell[0] as usize..];
         if packet[0] % 16 == kind {
             let field = u16::from_be_bytes([packet[1], packet[2]]);
@@ -141,8 +139,8 @@ impl Told {
 
     /// The same in the words of `by_the_rust`, with the refusals that the Rust does not tell apart merged.
     pub fn in_its_words(&self, class: impl Fn(u8) -> u64) -> (Vec<u64>, Vec<u64>, u64) {
-        let index = cells(&self.index);
-        let listed = &self.answers[..index.len() / 2];
+        let index = cells(&self.index, self.packets);
+        let listed = &self.answers[..self.packets];
         let answers = listed.iter().map(|&answer| class(answer)).collect();
         (index, answers, self.refusal.into())
     }

@@ -11,7 +11,7 @@ const PARSE: u64 = 1;
 const SERIALISE_INTO: u64 = 2;
 
 /// What the index holds before a call: no cell has it.
-pub const BLANK: u32 = u32::MAX;
+const BLANK: u32 = u32::MAX;
 
 type Parser = unsafe extern "C" fn(*const u8, usize, *mut u32, usize) -> sys::Parsed;
 
@@ -20,10 +20,9 @@ pub fn index_for(datagram: &[u8]) -> Vec<u32> {
     vec![BLANK; 2 * (datagram.len() / 20 + 2)]
 }
 
-/// The cells written; one that stands behind a blank one gives a number that no index holds.
-pub fn cells(index: &[u32]) -> Vec<u64> {
-    let written = index.iter().position(|&cell| cell == BLANK);
-    let (cells, rest) = index.split_at(written.unwrap_or(index.len()));
+/// The cells of the packets counted; where others are written, a number follows that no index holds.
+pub fn cells(index: &[u32], packets: usize) -> Vec<u64> {
+    let (cells, rest) = index.split_at(index.len().min(2 * packets));
     let mut cells: Vec<u64> = cells.iter().map(|&cell| cell.into()).collect();
     if rest.iter().any(|&cell| cell != BLANK) {
         cells.push(u64::MAX);
@@ -31,7 +30,7 @@ pub fn cells(index: &[u32]) -> Vec<u64> {
     cells
 }
 
-/// Kind, count or cursor, and the cells written.
+/// Kind, count or cursor, and the cells of the packets that the answer counts, refused or not.
 fn parsed(datagram: &[u8], parser: Parser) -> Vec<u64> {
     let mut index = index_for(datagram);
     // SAFETY: each pointer stands beside the length of its slice, and the two do not overlap.
@@ -47,7 +46,8 @@ fn parsed(datagram: &[u8], parser: Parser) -> Vec<u64> {
         0 => told.packets,
         _ => told.cursor,
     };
-    [&[told.refusal.into(), at as u64], &cells(&index)[..]].concat()
+    let cells = cells(&index, told.packets);
+    [&[told.refusal.into(), at as u64], &cells[..]].concat()
 }
 
 #[derive(Default)]

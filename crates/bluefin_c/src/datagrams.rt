@@ -25,7 +25,7 @@ pub extern "C" fn bluefin_receive(
 ) -> Parsed
     ensures { λ r. ⌜ _≡_ {A = Parsed × List ℕ × List ℕ × Buffer} (r, now (index .exit), now (answers .exit), bufferOf o (now (marks .exit)) (now (lengths .exit)) (now (store .exit))) (flatReception (receiving (bufferOf o (now (marks .entry)) (now (lengths .entry)) (now (store .entry))) (now (datagram .entry)) (now (index .entry)) (now (answers .entry)))) ⌝ }
 {
-    flat::packets::parsed_of(receive::receive(o, datagram, index, answers, marks, lengths, store))
+    flat::packets::indexed_of(receive::receive(o, datagram, index, answers, marks, lengths, store))
 }
 
 #[no_mangle]

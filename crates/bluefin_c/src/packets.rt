@@ -10,12 +10,12 @@ ghost use mathlib.Core.Path.{_≡_};
 ghost use mathlib.Core.List.{List};
 ghost use Prim.Native.Nat.{ℕ};
 ghost use Rattle.packet.specs.Packet.{serialisesInto, deserialises};
-ghost use Rattle.packet.specs.Datagram.{parses, parsesInto};
+ghost use Rattle.packet.specs.Datagram.{parses, indexes};
 ghost use Rattle.flat.specs.declared.headers.Written.{Written};
 ghost use Rattle.flat.specs.declared.packets.Parsed.{Parsed};
 ghost use Rattle.flat.specs.Answers.{firstBy};
 ghost use Rattle.flat.specs.Headers.{headerIn, unlessUnknown, writtenOf, headerReadOf};
-ghost use Rattle.flat.specs.Packets.{parsedOf};
+ghost use Rattle.flat.specs.Packets.{parsedOf, flatIndex};
 
 #[no_mangle]
 pub extern "C" fn bluefin_packet_serialise_into(
@@ -51,7 +51,7 @@ pub extern "C" fn bluefin_from_bytes(datagram: &[u8], index: &mut [u32]) -> Pars
 
 #[no_mangle]
 pub extern "C" fn bluefin_from_bytes_into(datagram: &[u8], index: &mut [u32]) -> Parsed
-    ensures { λ r. ⌜ _≡_ {A = Parsed × List ℕ} (r, now (index .exit)) (firstBy parsedOf (parsesInto (now (datagram .entry)) (now (index .entry)))) ⌝ }
+    ensures { λ r. ⌜ _≡_ {A = Parsed × List ℕ} (r, now (index .exit)) (flatIndex (indexes (now (datagram .entry)) (now (index .entry)))) ⌝ }
 {
-    flat::packets::parsed_of(packet::from_bytes_into(datagram, index))
+    flat::packets::indexed_of(packet::index_packets(datagram, index))
 }

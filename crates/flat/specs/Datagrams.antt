@@ -7,17 +7,17 @@ use Rattle.window.specs.declared.SlidingWindow.{SlidingWindow}
 use Rattle.receive.specs.Datagram.{Acks, Reception}
 use Rattle.flat.specs.declared.packets.Parsed.{Parsed}
 use Rattle.flat.specs.declared.datagrams.AcksReceived.{AcksReceived}
-use Rattle.flat.specs.Answers.{cursorIn, valueOr}
-use Rattle.flat.specs.Packets.{parsedOf}
+use Rattle.flat.specs.Answers.{cursorIn}
+use Rattle.flat.specs.Packets.{indexedOf}
 
--- the listing's answer beside the window to go on with
-abbrev pub acksReceivedOf : SlidingWindow → Said ℕ → AcksReceived
-acksReceivedOf w s = record { window = w; packets = valueOr 0 (λ n. n) s; cursor = cursorIn s; refusal = refusalIn s }
+-- the listing's answer, and how many packets stand in the index, beside the window to go on with
+abbrev pub acksReceivedOf : SlidingWindow → Said ℕ → ℕ → AcksReceived
+acksReceivedOf w s n = record { window = w; packets = n; cursor = cursorIn s; refusal = refusalIn s }
 
 -- Each answer beside what is left.
 
 abbrev pub flatReception : Reception Buffer → Parsed × List ℕ × List ℕ × Buffer
-flatReception d = (parsedOf (d .said), d .index, d .answers, d .state)
+flatReception d = (indexedOf (d .said) (d .cells), d .index, d .answers, d .state)
 
 abbrev pub flatAcksReception : Reception Acks → AcksReceived × List ℕ × List ℕ × List ℕ
-flatAcksReception d = (acksReceivedOf (d .state .window) (d .said), d .state .cells, d .index, d .answers)
+flatAcksReception d = (acksReceivedOf (d .state .window) (d .said) (d .cells), d .state .cells, d .index, d .answers)

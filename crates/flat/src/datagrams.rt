@@ -1,6 +1,7 @@
 // The answers of crates/receive as hosts have them.
 // Proved: each conversion is that of specs/Datagrams.antt.
 use crate::packets;
+use packet::Indexed;
 use window::SlidingWindow;
 ghost use mathlib.Core.Path.{_≡_};
 ghost use Rattle.packet.specs.Datagram.{parsedSays};
@@ -15,11 +16,15 @@ pub struct AcksReceived {
 }
 
 pub fn acks_received_of(received: receive::AcksReceived) -> AcksReceived
-    ensures { λ r. ⌜ r ≡ acksReceivedOf (received .window) (parsedSays (received .answer)) ⌝ }
+    ensures { λ r. ⌜ r ≡ acksReceivedOf (received .window) (parsedSays (received .answer)) (received .cells) ⌝ }
 {
     let window = received.window;
     let answer = received.answer;
-    let parsed = packets::parsed_of(answer);
+    let indexed = Indexed {
+        answer: answer,
+        cells: received.cells,
+    };
+    let parsed = packets::indexed_of(indexed);
     AcksReceived {
         window: window,
         packets: parsed.packets,

@@ -1,13 +1,15 @@
 // The answers of crates/packet as hosts have them.
 // Proved: each conversion is that of specs/Packets.antt or, where bytes are written, specs/Headers.antt.
 use crate::headers::Written;
+use packet::Indexed;
 use packet::PacketWritten;
 ghost use mathlib.Core.Path.{_≡_};
 ghost use Rattle.packet.specs.Packet.{packetWrittenSays};
 ghost use Rattle.packet.specs.Datagram.{parsedSays};
 ghost use Rattle.flat.specs.Headers.{writtenOf};
-ghost use Rattle.flat.specs.Packets.{parsedOf};
+ghost use Rattle.flat.specs.Packets.{parsedOf, indexedOf};
 
+// `packets` is how many stand in the index, refused or not.
 #[repr(C)]
 pub struct Parsed {
     pub packets: usize,
@@ -30,6 +32,7 @@ pub fn packet_written_of(answer: PacketWritten) -> Written
     }
 }
 
+// Of a call that leaves the index as it was where it refuses.
 pub fn parsed_of(answer: packet::Parsed) -> Parsed
     ensures { λ r. ⌜ r ≡ parsedOf (parsedSays answer) ⌝ }
 {
@@ -49,5 +52,18 @@ pub fn parsed_of(answer: packet::Parsed) -> Parsed
             cursor: at,
             refusal: refusal::number(r),
         },
+    }
+}
+
+// Of a call that keeps the packets before a refusal.
+pub fn indexed_of(indexed: Indexed) -> Parsed
+    ensures { λ r. ⌜ r ≡ indexedOf (parsedSays (indexed .answer)) (indexed .cells) ⌝ }
+{
+    let answer = indexed.answer;
+    let parsed = parsed_of(answer);
+    Parsed {
+        packets: indexed.cells,
+        cursor: parsed.cursor,
+        refusal: parsed.refusal,
     }
 }

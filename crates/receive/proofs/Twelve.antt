@@ -74,8 +74,8 @@ module _ {S : Type 0} (type : ℕ) (call : S → Packet → Said Unit × S) (s :
     where
       by : (t : Bool) →
           let taken = takesAll type call 0 (listed s (parsesInto s index .1) (cellsWritten s index)) (record { state = x; answers = answers }) in
-          let short : Reception S = record { said = refuses 10; index = index; answers = answers; state = x } in
-          let whole : Reception S = record { said = parsesInto s index .0; index = parsesInto s index .1; answers = taken .answers; state = taken .state } in
+          let short : Reception S = record { said = refuses 10; cells = 0; index = index; answers = answers; state = x } in
+          let whole : Reception S = record { said = parsesInto s index .0; cells = cellsWritten s index; index = parsesInto s index .1; answers = taken .answers; state = taken .state } in
           Fine (cond t short whole .state) (cond t short whole .answers)
       by true = f
       by false = all-fine (parsesInto s index .1) (cellsWritten s index) 0 (record { state = x; answers = answers }) f

@@ -33,19 +33,19 @@ module _ (s index : List ℕ) {after : List ℕ} {said : Said ℕ} {n : ℕ} (e 
   module _ {S : Type 0} (type : ℕ) (call : S → Packet → Said Unit × S) (state : S) (answers : List ℕ) where
     pub whole-taken : {well : Bool} {x : S} {given : List ℕ} → well ≡ true → cellsIn index ≤ length answers
         → record { state = x; answers = given } ≡ takesAll type call 0 (listed s after n) (record { state = state; answers = answers })
-        → record { said = said; index = after; answers = given; state = x } ≡ takesDatagram well type call state s index answers
+        → record { said = said; cells = n; index = after; answers = given; state = x } ≡ takesDatagram well type call state s index answers
     whole-taken {x = x} {given = given} fits room q =
         let told : said ≡ parsesInto s index .0 = ap (λ (y : Said ℕ × List ℕ × ℕ). y .0) e in
         let all : record { state = x; answers = given } ≡ takesAll type call 0 (listed s (parsesInto s index .1) (cellsWritten s index)) (record { state = state; answers = answers }) =
         q ∙ rw (left-index, many) in
-        let to : Progress S → Reception S = λ d. record { said = parsesInto s index .0; index = parsesInto s index .1; answers = d .answers; state = d .state } in
-        rw (fits, le-ltb (length answers) (cellsIn index) room, told, left-index) (ap to all)
+        let to : Progress S → Reception S = λ d. record { said = parsesInto s index .0; cells = cellsWritten s index; index = parsesInto s index .1; answers = d .answers; state = d .state } in
+        rw (fits, le-ltb (length answers) (cellsIn index) room, told, many, left-index) (ap to all)
 
 module _ {S : Type 0} (type : ℕ) (call : S → Packet → Said Unit × S) (state : S) (s index answers : List ℕ) where
   pub whole-malformed : {well : Bool} → well ≡ false
-      → record { said = refuses 12; index = index; answers = answers; state = state } ≡ takesDatagram well type call state s index answers
+      → record { said = refuses 12; cells = 0; index = index; answers = answers; state = state } ≡ takesDatagram well type call state s index answers
   whole-malformed fits = rw fits
 
   pub whole-short : {well : Bool} → well ≡ true → length answers < cellsIn index
-      → record { said = refuses 10; index = index; answers = answers; state = state } ≡ takesDatagram well type call state s index answers
+      → record { said = refuses 10; cells = 0; index = index; answers = answers; state = state } ≡ takesDatagram well type call state s index answers
   whole-short fits short = rw (fits, lt-ltb (length answers) (cellsIn index) short)

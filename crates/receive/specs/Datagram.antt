@@ -55,6 +55,8 @@ takesAll type call i (p ∷ ps) d = takesAll type call (suc i) ps (takes type ca
 
 pub record Reception (S : Type 0) : Type 0 where
   pub said : Said ℕ
+  -- how many packets stand in the index: "`from_bytes_into` keeps the packets before the refusal"
+  pub cells : ℕ
   pub index : List ℕ
   pub answers : List ℕ
   pub state : S
@@ -66,8 +68,8 @@ takesDatagram wellFormed type call state s index answers =
     let parsed = parsesInto s index in
     let taken = takesAll type call 0 (listed s (parsed .1) (cellsWritten s index)) (record { state = state; answers = answers }) in
     checks ((not wellFormed, 12) ∷ (ltb (length answers) (cellsIn index), 10) ∷ [])
-    (λ n. record { said = refuses n; index = index; answers = answers; state = state })
-    (record { said = parsed .0; index = parsed .1; answers = taken .answers; state = taken .state })
+    (λ n. record { said = refuses n; cells = 0; index = index; answers = answers; state = state })
+    (record { said = parsed .0; cells = cellsWritten s index; index = parsed .1; answers = taken .answers; state = taken .state })
 
 -- type 3: the data packets
 unfoldable pub receiving : Buffer → List ℕ → List ℕ → List ℕ → Reception Buffer

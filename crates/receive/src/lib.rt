@@ -6,6 +6,7 @@ ghost use Rattle.packet.specs.Datagram.{parsedSays};
 ghost use Rattle.ordered_bytes.specs.Buffer.{bufferOf};
 ghost use Rattle.receive.specs.Datagram.{receiving, receivingAcks};
 use ordered_bytes::OrderedBytes;
+use packet::Indexed;
 use packet::Parsed;
 use refusal::Refusal;
 use window::SlidingWindow;
@@ -13,10 +14,11 @@ use window::SlidingWindow;
 mod acks;
 mod data;
 
-// The window to go on with, and what `from_bytes_into` answers.
+// The window to go on with, what `from_bytes_into` answers, and how many packets stand in the index, refused or not.
 pub struct AcksReceived {
     pub window: SlidingWindow,
     pub answer: Parsed,
+    pub cells: usize,
 }
 
 // Each data packet listed is accepted as `buffer_in_packet` accepts it.
@@ -28,14 +30,20 @@ pub fn receive(
     marks: &mut [bool],
     lengths: &mut [u32],
     store: &mut [u8],
-) -> Parsed
-    ensures { λ r. ⌜ record { said = parsedSays r; index = now (index .exit); answers = now (answers .exit); state = bufferOf o (now (marks .exit)) (now (lengths .exit)) (now (store .exit)) } ≡ receiving (bufferOf o (now (marks .entry)) (now (lengths .entry)) (now (store .entry))) (now (datagram .entry)) (now (index .entry)) (now (answers .entry)) ⌝ }
+) -> Indexed
+    ensures { λ r. ⌜ record { said = parsedSays (r .answer); cells = r .cells; index = now (index .exit); answers = now (answers .exit); state = bufferOf o (now (marks .exit)) (now (lengths .exit)) (now (store .exit)) } ≡ receiving (bufferOf o (now (marks .entry)) (now (lengths .entry)) (now (store .entry))) (now (datagram .entry)) (now (index .entry)) (now (answers .entry)) ⌝ }
 {
     if !ordered_bytes::well_formed(o, marks, lengths, store) {
-        return Parsed::Refused(Refusal::Malformed);
+        return Indexed {
+            answer: Parsed::Refused(Refusal::Malformed),
+            cells: 0,
+        };
     }
     if answers.len() < index.len() / 2 {
-        return Parsed::Refused(Refusal::BufferShort);
+        return Indexed {
+            answer: Parsed::Refused(Refusal::BufferShort),
+            cells: 0,
+        };
     }
     let indexed = packet::index_packets(datagram, index);
     data::accept_all(
@@ -48,7 +56,7 @@ pub fn receive(
         lengths,
         store,
     );
-    indexed.answer
+    indexed
 }
 
 // Each ack listed is entered as `insert_range` enters it: its number is the base, its field the count.
@@ -59,18 +67,20 @@ pub fn receive_acks(
     index: &mut [u32],
     answers: &mut [u8],
 ) -> AcksReceived
-    ensures { λ r. ⌜ record { said = parsedSays (r .answer); index = now (index .exit); answers = now (answers .exit); state = record { window = r .window; cells = now (cells .exit) } } ≡ receivingAcks w (now (cells .entry)) (now (datagram .entry)) (now (index .entry)) (now (answers .entry)) ⌝ }
+    ensures { λ r. ⌜ record { said = parsedSays (r .answer); cells = r .cells; index = now (index .exit); answers = now (answers .exit); state = record { window = r .window; cells = now (cells .exit) } } ≡ receivingAcks w (now (cells .entry)) (now (datagram .entry)) (now (index .entry)) (now (answers .entry)) ⌝ }
 {
     if !window::well_formed(w, cells) {
         return AcksReceived {
             window: w,
             answer: Parsed::Refused(Refusal::Malformed),
+            cells: 0,
         };
     }
     if answers.len() < index.len() / 2 {
         return AcksReceived {
             window: w,
             answer: Parsed::Refused(Refusal::BufferShort),
+            cells: 0,
         };
     }
     let indexed = packet::index_packets(datagram, index);
@@ -79,5 +89,6 @@ pub fn receive_acks(
     AcksReceived {
         window: entered,
         answer: answer,
+        cells: indexed.cells,
     }
 }

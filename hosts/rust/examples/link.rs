@@ -127,13 +127,16 @@ fn main() {
     let mut index = Index::with_room_for(PACKETS);
     let packets = index.from_bytes(&datagram).unwrap();
     println!("parsed {packets} packets of {} bytes", datagram.len());
-    let cut = Index::new()
-        .from_bytes(&datagram[..datagram.len() - 1])
-        .unwrap_err();
+    let less = &datagram[..datagram.len() - 1];
+    let mut kept = Index::new();
+    let cut = kept.from_bytes(less).unwrap_err();
+    assert!(kept.is_empty());
+    assert_eq!(kept.from_bytes_into(less), Err(cut));
     println!(
-        "a byte less: refused {} at {}",
+        "a byte less: refused {} at {}, {} packets before it",
         cut.refusal.number(),
-        cut.cursor
+        cut.cursor,
+        kept.len()
     );
     assert_eq!(
         Index::with_room_for(0).from_bytes(&[]).unwrap_err().refusal,

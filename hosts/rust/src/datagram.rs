@@ -90,11 +90,10 @@ impl Index {
                 self.cells.len(),
             )
         };
-        self.listed = parsed.packets;
-        told(parsed)
+        self.keep(parsed)
     }
 
-    /// The same, but packets before the one that is refused are listed all the same.
+    /// The same, but packets before the one that is refused are listed all the same: [`Index::len`] says how many.
     pub fn from_bytes_into(&mut self, datagram: &[u8]) -> Result<usize, RefusedAt> {
         // SAFETY: as in `from_bytes`.
         let parsed = unsafe {
@@ -106,6 +105,15 @@ impl Index {
             )
         };
         self.keep(parsed)
+    }
+
+    /// How many packets the last call listed, refused or not.
+    pub fn len(&self) -> usize {
+        self.listed
+    }
+
+    pub fn is_empty(&self) -> bool {
+        self.listed == 0
     }
 
     /// The packets listed, in order; `datagram` is the one that they were listed from. A packet that is not in it ends the list.
@@ -130,36 +138,18 @@ impl Index {
 
     /// Keeps how many packets a call listed, refused or not.
     pub(crate) fn keep(&mut self, parsed: sys::Parsed) -> Result<usize, RefusedAt> {
-        self.listed = match Refusal::of(parsed.refusal) {
-            None => parsed.packets,
-            Some(Refusal::BufferShort) => self.cells.len() / 2,
-            Some(_) => self.listed_to(parsed.cursor),
-        };
-        told(parsed)
+        self.listed = parsed.packets;
+        Refusal::or(parsed.refusal, parsed.packets).map_err(|refusal| RefusedAt {
+            refusal,
+            cursor: parsed.cursor,
+        })
     }
-
-    /// How many of the first cells list packets that end at this byte.
-    fn listed_to(&self, cursor: usize) -> usize {
-        let mut end = 0;
-        let before = |cell: &&[u32]| {
-            end += HEADER_BYTES + cell[1] as usize;
-            end <= cursor
-        };
-        self.cells.chunks_exact(2).take_while(before).count()
-    }
-}
-
-fn told(parsed: sys::Parsed) -> Result<usize, RefusedAt> {
-    Refusal::or(parsed.refusal, parsed.packets).map_err(|refusal| RefusedAt {
-        refusal,
-        cursor: parsed.cursor,
-    })
 }
 
 #[cfg(test)]
 mod tests {
     use super::*;
-    use crate::PacketType;
+    use crate::{OrderedBytes, PacketType, SlidingWindow};
 
     fn datagram() -> Vec<u8> {
         let mut bytes = vec![0; 45];
@@ -191,13 +181,33 @@ mod tests {
         });
         let mut index = Index::new();
         assert_eq!(index.from_bytes_into(&bytes[..44]), tail);
-        assert_eq!(index.packets(&bytes[..44]).count(), 1);
+        assert_eq!((index.len(), index.packets(&bytes[..44]).count()), (1, 1));
         assert_eq!(index.from_bytes(&bytes[..44]), tail);
-        assert_eq!(index.packets(&bytes[..44]).count(), 0);
+        assert!(index.is_empty());
         let mut short = Index::with_room_for(1);
         let refused = short.from_bytes_into(&bytes).unwrap_err();
         assert_eq!((refused.refusal, refused.cursor), (Refusal::BufferShort, 0));
-        assert_eq!(short.packets(&bytes).count(), 1);
+        assert_eq!(short.len(), 1);
+        // Nothing of an earlier datagram is taken for a packet of this one.
+        assert_eq!(short.from_bytes_into(&bytes[..24]).unwrap_err().cursor, 0);
+        assert!(short.is_empty());
+    }
+
+    #[test]
+    fn a_refused_datagram_is_taken_as_far_as_it_was_listed() {
+        let bytes = datagram();
+        let mut index = Index::new();
+        let mut buffer = OrderedBytes::new(4, 5, 7).unwrap();
+        assert!(buffer.receive(&bytes[..44], &mut index).is_err());
+        assert_eq!((index.len(), index.answers()), (1, &[0][..]));
+        assert!(buffer.receive(&bytes[..44], &mut index).is_err());
+        assert_eq!(index.answers(), [Refusal::AlreadyHeld.number()]);
+        let mut window = SlidingWindow::new(9, 4);
+        let acks = [&bytes[25..], &bytes[25..], &[4]].concat();
+        let refused = window.receive_acks(&acks, &mut index).unwrap_err();
+        assert_eq!((refused.cursor, index.len()), (40, 2));
+        assert_eq!(index.answers(), [0, Refusal::AlreadyHeld.number()]);
+        assert_eq!(window.held(), [9, 10, 11]);
     }
 
     #[test]

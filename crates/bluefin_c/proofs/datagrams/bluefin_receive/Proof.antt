@@ -7,8 +7,8 @@ use Rattle.bluefin_c.proofs.datagrams.bluefin_receive.Tie as tie
 receive-requires : tie.Need-receive-requires
 receive-requires c κs = search needs
 
-parsed-of-requires : tie.Need-parsed-of-requires
-parsed-of-requires c κs = search needs
+indexed-of-requires : tie.Need-indexed-of-requires
+indexed-of-requires c κs = search needs
 
 same-length : tie.Need-same-length
 same-length c = search needs
@@ -26,14 +26,14 @@ same-length-5 : tie.Need-same-length-5
 same-length-5 c = search needs
 
 returns : tie.Need-returns
-returns c = flat-reception (c .parsed-of .ensures) (c .before .before .before .before .before .before .before .before .before .before .before .receive .ensures)
+returns c = flat-reception (c .indexed-of .ensures) (c .before .before .before .before .before .before .before .before .before .before .before .receive .ensures)
 
 pub bluefin-receive-spec : {M : Type 1} → statement M
 bluefin-receive-spec =
     tie.close
     (tie.spec
     receive-requires
-    parsed-of-requires
+    indexed-of-requires
     same-length
     same-length-2
     same-length-3
