@@ -1,16 +1,22 @@
 /*
  * The Bluefin link for C: what crates/bluefin_c exports, proved.
  *
- * Link target/staticlib/libbluefin_c.a, which `rt staticlib bluefin_c` writes.
+ * Link target/staticlib/libbluefin_c.a, which `rt staticlib bluefin_c` writes, for x86-64 Linux only.
  *
  * Memory. The library keeps none: every byte that it reads or writes is lent by the caller for the length of one call, and states are small
  * structs that go in by value and come back by value. A pointer is followed by the number of its elements; it may be NULL where that number
- * is 0. What one call is lent must not overlap, but for memory that is only read. A `bool` that is lent must hold 0 or 1.
+ * is 0. It is aligned for its element: 4 bytes for uint32_t, 8 for uint64_t and for structs. What one call is lent must not overlap, but for
+ * memory that is only read; a payload that lies inside the output overlaps.
+ * A `bool` holds 0 or 1, lent or by value, in a struct too; what a call does with any other is undefined. Only `bluefin_ordered_bytes_new` may
+ * be lent marks of any content.
  * Two threads may call at once, on memory of their own.
  *
- * Answers. `refusal` is 0, or the number of the refusal; the answer's other numbers are then 0. A state in an answer is the one to go on with,
- * refused or not, and so is the count of a listing. Where a call is refused, lent memory stays as it was, unless the call says otherwise.
- * A cursor comes with 1 to 4: it is the byte of the datagram at which the walk stopped.
+ * Not looked at are connection ids, version, encrypted bit and mask of what arrives: a packet of another connection is taken like any other.
+ * The host holds the headers listed against its own before it gives the datagram to `bluefin_receive` or `bluefin_receive_acks`.
+ *
+ * Answers. `refusal` is 0, or the number of the refusal; the answer's other numbers are then 0, but for the packets of a listing. A state in an
+ * answer is the one to go on with, refused or not. Where a call is refused, lent memory stays as it was, unless the call says otherwise.
+ * A cursor comes with 1 to 4: it is the byte of the datagram at which the walk stopped. The 4 of a write comes without one.
  */
 #ifndef BLUEFIN_H
 #define BLUEFIN_H
@@ -19,8 +25,14 @@
 #include <stddef.h>
 #include <stdint.h>
 
+/* Rises with every change of the binary interface: a struct, an argument, a number. */
+#define BLUEFIN_VERSION 1
+
 #ifdef __cplusplus
+#define BLUEFIN_SIZE(type, size) static_assert(sizeof(type) == size && alignof(type) == 8, #type)
 extern "C" {
+#else
+#define BLUEFIN_SIZE(type, size) _Static_assert(sizeof(type) == size && _Alignof(type) == 8, #type)
 #endif
 
 /* ---- refusals */
@@ -63,17 +75,20 @@ typedef struct {
     uint8_t header_protection_mask; /* 0 to 127 */
     bool header_encrypted;
 } bluefin_header;
+BLUEFIN_SIZE(bluefin_header, 24);
 
 typedef struct {
     size_t bytes; /* bytes written, from the output's start on */
     uint8_t refusal;
 } bluefin_written;
+BLUEFIN_SIZE(bluefin_written, 16);
 
 typedef struct {
     bluefin_header header;
     size_t cursor;
     uint8_t refusal;
 } bluefin_header_read;
+BLUEFIN_SIZE(bluefin_header_read, 40);
 
 /* Writes the header: 20 bytes. Refusals: 4, 11, 10. */
 bluefin_written bluefin_header_serialise_into(bluefin_header header, uint8_t *buf, size_t buf_len);
@@ -88,11 +103,12 @@ typedef struct {
     size_t cursor;
     uint8_t refusal;
 } bluefin_parsed;
+BLUEFIN_SIZE(bluefin_parsed, 24);
 
 /* Writes header and payload: 20 bytes and the payload's. The header's field is not held against the payload. Refusals: 4, 11, 10. */
 bluefin_written bluefin_packet_serialise_into(bluefin_header header, const uint8_t *payload, size_t payload_len, uint8_t *buf, size_t buf_len);
 
-/* Reads the header of a packet that stands alone; its payload is every byte from the 20th on. Refusals: 1, 4. */
+/* Reads the header of a packet that stands alone; its payload is every byte from offset 20 on. Refusals: 1, 4. */
 bluefin_header_read bluefin_packet_deserialise(const uint8_t *bytes, size_t bytes_len);
 
 /*
@@ -116,11 +132,13 @@ typedef struct {
     uint64_t front_number;
     size_t carry_len;
 } bluefin_ordered_bytes;
+BLUEFIN_SIZE(bluefin_ordered_bytes, 32);
 
 typedef struct {
     bluefin_ordered_bytes state;
     uint8_t refusal;
 } bluefin_started;
+BLUEFIN_SIZE(bluefin_started, 40);
 
 /* A read's answer: packets that left their slots, the front packet's number or 0, bytes given. */
 typedef struct {
@@ -130,6 +148,7 @@ typedef struct {
     uint64_t bytes_consumed;
     uint8_t refusal;
 } bluefin_consumed;
+BLUEFIN_SIZE(bluefin_consumed, 64);
 
 typedef struct {
     bluefin_ordered_bytes state;
@@ -139,8 +158,9 @@ typedef struct {
     size_t pieces;
     uint8_t refusal;
 } bluefin_consumed_bytes;
+BLUEFIN_SIZE(bluefin_consumed_bytes, 72);
 
-/* An empty buffer that starts at a number: clears marks and lengths; the store may hold anything. Refusal: 12, with the state all 0. */
+/* An empty buffer that starts at a number: clears marks and lengths; they and the store may hold anything. Refusal: 12, with the state all 0. */
 bluefin_started bluefin_ordered_bytes_new(size_t slot_width, uint64_t start_packet_number, bool *marks, size_t marks_len, uint32_t *lengths,
                                           size_t lengths_len, const uint8_t *store, size_t store_len);
 
@@ -186,11 +206,13 @@ typedef struct {
     uint64_t smallest_expected;
     size_t count;
 } bluefin_window;
+BLUEFIN_SIZE(bluefin_window, 16);
 
 typedef struct {
     bluefin_window window;
     uint8_t refusal;
 } bluefin_inserted;
+BLUEFIN_SIZE(bluefin_inserted, 24);
 
 /* length is 0 where the smallest expected number is absent. */
 typedef struct {
@@ -199,6 +221,7 @@ typedef struct {
     uint64_t length;
     uint8_t refusal;
 } bluefin_run;
+BLUEFIN_SIZE(bluefin_run, 40);
 
 typedef struct {
     bluefin_window window;
@@ -206,6 +229,7 @@ typedef struct {
     size_t cursor;
     uint8_t refusal;
 } bluefin_acks_received;
+BLUEFIN_SIZE(bluefin_acks_received, 40);
 
 /* An empty window from a number on. */
 bluefin_window bluefin_window_new(uint64_t smallest_expected);
@@ -213,7 +237,8 @@ bluefin_window bluefin_window_new(uint64_t smallest_expected);
 /* Refusals: 12, 5, 6, 9, 7, 10. */
 bluefin_inserted bluefin_window_insert_packet_number(bluefin_window w, uint64_t *cells, size_t cells_len, uint64_t n);
 
-/* Refusals: 12, 5, 9, 6, 10, 7, which has stored the numbers before the first held one. A count of 0 is accepted unchecked. */
+/* Refusals: 12, 5, 9, 6, 10, 7, which has stored the numbers before the first held one. A count of 0 is accepted unchecked;
+ * one above 65,535 is cut to 16 bits by C before the call. */
 bluefin_inserted bluefin_window_insert_range(bluefin_window w, uint64_t *cells, size_t cells_len, uint64_t base, uint16_t count);
 
 /* Drops the unbroken run from the smallest expected number on. Refusal: 12. */
@@ -232,6 +257,7 @@ typedef struct {
     uint64_t base_packet_num;
     uint32_t num_packets_consumed;
 } bluefin_ack;
+BLUEFIN_SIZE(bluefin_ack, 16);
 
 /* What is small of a ring; its capacity is the number of lent records. Every call refuses with 12 first. */
 typedef struct {
@@ -239,6 +265,7 @@ typedef struct {
     size_t tail;
     size_t len;
 } bluefin_ring;
+BLUEFIN_SIZE(bluefin_ring, 24);
 
 /* `given_back` is the record where the ring was full, else 0. */
 typedef struct {
@@ -247,17 +274,20 @@ typedef struct {
     bool full;
     uint8_t refusal;
 } bluefin_pushed;
+BLUEFIN_SIZE(bluefin_pushed, 48);
 
 typedef struct {
     bluefin_ring ring;
     bluefin_ack ack;
     uint8_t refusal;
 } bluefin_popped;
+BLUEFIN_SIZE(bluefin_popped, 48);
 
 typedef struct {
     bluefin_ring ring;
     uint8_t refusal;
 } bluefin_cleared;
+BLUEFIN_SIZE(bluefin_cleared, 32);
 
 typedef struct {
     bluefin_ring ring;
@@ -265,6 +295,7 @@ typedef struct {
     bool to_send;
     uint8_t refusal;
 } bluefin_acks_packed;
+BLUEFIN_SIZE(bluefin_acks_packed, 40);
 
 /* An empty ring: head, tail and len 0. The records may hold anything. */
 bluefin_ring bluefin_ring_new(void);
@@ -297,12 +328,14 @@ typedef struct {
     size_t bytes_cut;         /* bytes to cut from the first entry left */
     uint8_t refusal;
 } bluefin_data_packed;
+BLUEFIN_SIZE(bluefin_data_packed, 48);
 
 typedef struct {
     uint64_t number;
     uint64_t next_packet_num;
     uint8_t refusal;
 } bluefin_reserved;
+BLUEFIN_SIZE(bluefin_reserved, 24);
 
 /*
  * Packs up to 15,000 bytes of a queue, whose entries' bytes stand end to end and whose lengths stand in `lengths`, into packets of up to
@@ -345,11 +378,13 @@ typedef struct {
     bool is_received;
     bool peer_fin_observed;
 } bluefin_close_record;
+BLUEFIN_SIZE(bluefin_close_record, 32);
 
 typedef struct {
     bluefin_close_record close;
     uint8_t refusal;
 } bluefin_close_after;
+BLUEFIN_SIZE(bluefin_close_after, 40);
 
 typedef struct {
     bluefin_close_record close;
@@ -357,6 +392,7 @@ typedef struct {
     bool was_pending;
     uint8_t refusal;
 } bluefin_fin_ack_taken;
+BLUEFIN_SIZE(bluefin_fin_ack_taken, 48);
 
 /* An active connection's record. The flag stays as it is given. */
 bluefin_close_record bluefin_close_new(bool peer_fin_observed);
@@ -384,5 +420,6 @@ bool bluefin_is_client_ack_packet(uint8_t host, bluefin_header header);
 #ifdef __cplusplus
 }
 #endif
+#undef BLUEFIN_SIZE
 
 #endif

@@ -27,12 +27,10 @@ static void expect(bool holds, const char *what) {
 }
 #define EXPECT(fact) expect(fact, #fact)
 
-/* ---- the layouts that a host in another language must have */
+/* ---- the layouts that a host in another language must have; the header has the sizes */
 
 #define AT(type, field, offset) _Static_assert(offsetof(type, field) == offset, #type " " #field)
-#define SIZE(type, size) _Static_assert(sizeof(type) == size && _Alignof(type) == 8, #type)
 
-SIZE(bluefin_header, 24);
 AT(bluefin_header, source_connection_id, 8);
 AT(bluefin_header, destination_connection_id, 12);
 AT(bluefin_header, type_specific_payload, 16);
@@ -40,77 +38,55 @@ AT(bluefin_header, version, 18);
 AT(bluefin_header, type_field, 19);
 AT(bluefin_header, header_protection_mask, 20);
 AT(bluefin_header, header_encrypted, 21);
-SIZE(bluefin_written, 16);
 AT(bluefin_written, refusal, 8);
-SIZE(bluefin_header_read, 40);
 AT(bluefin_header_read, cursor, 24);
 AT(bluefin_header_read, refusal, 32);
-SIZE(bluefin_parsed, 24);
 AT(bluefin_parsed, cursor, 8);
 AT(bluefin_parsed, refusal, 16);
-SIZE(bluefin_ordered_bytes, 32);
 AT(bluefin_ordered_bytes, front_slot, 8);
 AT(bluefin_ordered_bytes, front_number, 16);
 AT(bluefin_ordered_bytes, carry_len, 24);
-SIZE(bluefin_started, 40);
 AT(bluefin_started, refusal, 32);
-SIZE(bluefin_consumed, 64);
 AT(bluefin_consumed, num_packets_consumed, 32);
 AT(bluefin_consumed, base_packet_number, 40);
 AT(bluefin_consumed, bytes_consumed, 48);
 AT(bluefin_consumed, refusal, 56);
-SIZE(bluefin_consumed_bytes, 72);
 AT(bluefin_consumed_bytes, pieces, 56);
 AT(bluefin_consumed_bytes, refusal, 64);
-SIZE(bluefin_window, 16);
 AT(bluefin_window, count, 8);
-SIZE(bluefin_inserted, 24);
 AT(bluefin_inserted, refusal, 16);
-SIZE(bluefin_run, 40);
 AT(bluefin_run, last, 16);
 AT(bluefin_run, length, 24);
 AT(bluefin_run, refusal, 32);
-SIZE(bluefin_acks_received, 40);
 AT(bluefin_acks_received, packets, 16);
 AT(bluefin_acks_received, cursor, 24);
 AT(bluefin_acks_received, refusal, 32);
-SIZE(bluefin_ack, 16);
 AT(bluefin_ack, num_packets_consumed, 8);
-SIZE(bluefin_ring, 24);
 AT(bluefin_ring, tail, 8);
 AT(bluefin_ring, len, 16);
-SIZE(bluefin_pushed, 48);
 AT(bluefin_pushed, given_back, 24);
 AT(bluefin_pushed, full, 40);
 AT(bluefin_pushed, refusal, 41);
-SIZE(bluefin_popped, 48);
 AT(bluefin_popped, ack, 24);
 AT(bluefin_popped, refusal, 40);
-SIZE(bluefin_cleared, 32);
 AT(bluefin_cleared, refusal, 24);
-SIZE(bluefin_acks_packed, 40);
 AT(bluefin_acks_packed, acks, 24);
 AT(bluefin_acks_packed, to_send, 32);
 AT(bluefin_acks_packed, refusal, 33);
-SIZE(bluefin_data_packed, 48);
 AT(bluefin_data_packed, packets, 8);
 AT(bluefin_data_packed, next_packet_num, 16);
 AT(bluefin_data_packed, entries_removed, 24);
 AT(bluefin_data_packed, bytes_cut, 32);
 AT(bluefin_data_packed, refusal, 40);
-SIZE(bluefin_reserved, 24);
 AT(bluefin_reserved, next_packet_num, 8);
 AT(bluefin_reserved, refusal, 16);
-SIZE(bluefin_close_record, 32);
 AT(bluefin_close_record, pending_fin_ack_send, 8);
 AT(bluefin_close_record, received_fin_ack_for, 16);
 AT(bluefin_close_record, state, 24);
 AT(bluefin_close_record, is_pending, 25);
 AT(bluefin_close_record, is_received, 26);
 AT(bluefin_close_record, peer_fin_observed, 27);
-SIZE(bluefin_close_after, 40);
 AT(bluefin_close_after, refusal, 32);
-SIZE(bluefin_fin_ack_taken, 48);
 AT(bluefin_fin_ack_taken, number, 32);
 AT(bluefin_fin_ack_taken, was_pending, 40);
 AT(bluefin_fin_ack_taken, refusal, 41);
@@ -155,9 +131,13 @@ static size_t send_all(void) {
     return end;
 }
 
+/* The marks hold anything before. */
 static void start_buffer(buffer *b) {
+    memset(b->marks, 0xaa, sizeof b->marks);
     bluefin_started started = bluefin_ordered_bytes_new(WIDTH, START, b->marks, SLOTS, b->lengths, SLOTS, b->store, sizeof b->store);
     EXPECT(started.refusal == 0);
+    for (size_t i = 0; i < SLOTS; i++)
+        EXPECT(!b->marks[i] && b->lengths[i] == 0);
     b->small = started.state;
 }
 

@@ -30,7 +30,7 @@ pub fn packet_serialise_into(
     Refusal::or(written.refusal, written.bytes)
 }
 
-/// Reads a packet that stands alone: its header, and as payload every byte from the 20th on. Refusals: 1, 4.
+/// Reads a packet that stands alone: its header, and as payload every byte from offset 20 on. Refusals: 1, 4.
 pub fn packet_deserialise(bytes: &[u8]) -> Result<Packet<'_>, Refusal> {
     // SAFETY: the pointer and the length are those of one slice, which is only read.
     let header =

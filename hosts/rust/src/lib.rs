@@ -3,6 +3,7 @@
 //! The library keeps no memory and does no input or output. Here the types that have memory of their own own it ([`OrderedBytes`],
 //! [`SlidingWindow`], [`AckRing`], [`Index`]); datagrams, outputs and queues are slices that the caller lends for the length of a call.
 //! A call answers `Ok`, or a numbered [`Refusal`]. A refused call leaves everything as it was, unless it says otherwise.
+//! No call looks at connection ids, version, encrypted bit or mask of what arrives: the program does, in the headers of [`Index::packets`].
 //!
 //! What is proved is the archive. This wrapper and [`sys`] are tested, not proved.
 

@@ -1,6 +1,9 @@
 //! include/bluefin.h as Rust sees it: the same names without `bluefin_`, the same order of fields and arguments. What each call
 //! does, and what it must be lent, is said there. The modules beside this one are the safe way to call.
 
+/// The binary interface that this file declares, as the C header counts them.
+pub const VERSION: u32 = 1;
+
 macro_rules! c_structs {
     ($($name:ident { $($field:ident: $type:ty),* $(,)? })*) => {
         $(
@@ -282,7 +285,14 @@ mod tests {
     use super::*;
     use std::mem::{align_of, offset_of, size_of};
 
-    /// The numbers that hosts/c/main.c holds the C header against.
+    #[test]
+    fn the_version_is_that_of_the_c_header() {
+        let header = include_str!("../../../include/bluefin.h");
+        let line = format!("#define BLUEFIN_VERSION {VERSION}");
+        assert!(header.lines().any(|said| said == line), "{line}");
+    }
+
+    /// The numbers that the C header and hosts/c/main.c have for C.
     #[test]
     fn layouts_are_those_of_the_c_header() {
         macro_rules! layout {
