@@ -1,7 +1,8 @@
 /*
  * A sender and a receiver in one program: packs a queue, parses the datagram, accepts its packets out of order, reads until nothing is left,
- * sends acks back and consumes the window; then the same by one call for a datagram. It checks each answer, prints what it saw, and ends
- * with a failure where anything is off. examples/link.rs of hosts/rust is the same program; hosts/expected is what both print.
+ * sends acks back and consumes the window; then the same by one call for a datagram, and a FIN in a datagram of its own. It checks each
+ * answer, prints what it saw, and ends with a failure where anything is off. examples/link.rs of hosts/rust is the same program;
+ * hosts/expected is what both print.
  */
 #include <stdio.h>
 #include <stdlib.h>
@@ -18,6 +19,8 @@
 #define CELLS 16
 #define ACKS 4
 #define PACKETS 16
+#define SENDER 1
+#define RECEIVER 2
 
 static void expect(bool holds, const char *what) {
     if (!holds) {
@@ -114,21 +117,24 @@ static void fill_queue(void) {
     }
 }
 
-/* Packs the queue and, behind the data, a FIN; answers the datagram's length. */
-static size_t send_all(void) {
+/* Packs the queue into one datagram. */
+static bluefin_data_packed send_all(void) {
     bluefin_data_packed data =
-        bluefin_consume_data_into(queue, QUEUED, queue_lengths, LINES, START, 1, 2, datagram, sizeof datagram);
+        bluefin_consume_data_into(queue, QUEUED, queue_lengths, LINES, START, SENDER, RECEIVER, datagram, sizeof datagram);
     EXPECT(data.refusal == 0 && data.bytes == QUEUED && data.entries_removed == LINES && data.bytes_cut == 0);
     printf("packed %zu bytes of %d entries into %zu packets, next number %llu\n", data.bytes, LINES, data.packets,
            (unsigned long long)data.next_packet_num);
-    size_t end = data.bytes + 20 * data.packets;
-    bluefin_reserved reserved = bluefin_reserve_close_packet_num(data.next_packet_num);
-    EXPECT(reserved.refusal == 0);
-    bluefin_written fin = bluefin_write_fin(1, 2, reserved.number, datagram + end, sizeof datagram - end);
-    EXPECT(fin.refusal == 0 && fin.bytes == 20);
-    end += fin.bytes;
-    EXPECT(bluefin_payload_bytes_in_datagram(datagram, end) == QUEUED);
-    return end;
+    EXPECT(bluefin_payload_bytes_in_datagram(datagram, data.bytes + 20 * data.packets) == QUEUED);
+    return data;
+}
+
+/* Reads a header that arrived from one end at the other; what the library does not look at is looked at here. */
+static bluefin_header header_from(uint32_t source, uint32_t destination, const uint8_t *bytes) {
+    bluefin_header_read read = bluefin_header_deserialise(bytes, 20);
+    EXPECT(read.refusal == 0);
+    EXPECT(read.header.source_connection_id == source && read.header.destination_connection_id == destination);
+    EXPECT(read.header.version == 0 && !read.header.header_encrypted && read.header.header_protection_mask == 0);
+    return read.header;
 }
 
 /* The marks hold anything before. */
@@ -141,15 +147,23 @@ static void start_buffer(buffer *b) {
     b->small = started.state;
 }
 
+/* Both listings of a datagram that lacks its last byte: one keeps the packets before the refusal. */
+static void cut_short(size_t length) {
+    uint32_t cells[2 * PACKETS];
+    bluefin_parsed cut = bluefin_from_bytes(datagram, length, cells, 2 * PACKETS);
+    EXPECT(cut.packets == 0);
+    bluefin_parsed kept = bluefin_from_bytes_into(datagram, length, cells, 2 * PACKETS);
+    EXPECT(kept.refusal == cut.refusal && kept.cursor == cut.cursor);
+    printf("a byte less: refused %d at %zu, %zu packets before it\n", kept.refusal, kept.cursor, kept.packets);
+    EXPECT(bluefin_from_bytes(NULL, 0, NULL, 0).refusal == BLUEFIN_SHORT);
+}
+
 static uint8_t accept_packet(buffer *b, size_t i) {
-    const uint8_t *header = datagram + index_cells[2 * i];
-    bluefin_header_read read = bluefin_header_deserialise(header, 20);
-    EXPECT(read.refusal == 0);
-    if (read.header.type_field != BLUEFIN_DATA)
-        return 0;
-    EXPECT(read.header.type_specific_payload == index_cells[2 * i + 1]);
-    return bluefin_ordered_bytes_buffer_in_packet(b->small, read.header.packet_number, header + 20, index_cells[2 * i + 1], b->marks,
-                                                  SLOTS, b->lengths, SLOTS, b->store, sizeof b->store);
+    const uint8_t *bytes = datagram + index_cells[2 * i];
+    bluefin_header header = header_from(SENDER, RECEIVER, bytes);
+    EXPECT(header.type_field == BLUEFIN_DATA && header.type_specific_payload == index_cells[2 * i + 1]);
+    return bluefin_ordered_bytes_buffer_in_packet(b->small, header.packet_number, bytes + 20, index_cells[2 * i + 1], b->marks, SLOTS,
+                                                  b->lengths, SLOTS, b->store, sizeof b->store);
 }
 
 /* Reads until refusal 8, holds what was read against the queue, and queues an ack for each read that took packets. */
@@ -183,8 +197,10 @@ static bluefin_ring read_all(buffer *b, bluefin_ack *records) {
 /* Packs the queued acks, enters them into the window, and consumes it. */
 static void acknowledge(bluefin_ring ring, bluefin_ack *records) {
     uint8_t acks[20 * ACKS];
-    bluefin_acks_packed packed = bluefin_consume_acks_into(ring, records, ACKS, 0, 2, 1, acks, sizeof acks);
+    bluefin_acks_packed packed = bluefin_consume_acks_into(ring, records, ACKS, 0, RECEIVER, SENDER, acks, sizeof acks);
     EXPECT(packed.refusal == 0 && packed.to_send && packed.ring.len == 0);
+    for (size_t i = 0; i < packed.acks; i++)
+        EXPECT(header_from(RECEIVER, SENDER, acks + 20 * i).type_field == BLUEFIN_ACK);
 
     uint64_t cells[CELLS];
     uint8_t answers[PACKETS] = {0};
@@ -202,46 +218,49 @@ static void acknowledge(bluefin_ring ring, bluefin_ack *records) {
            (unsigned long long)run.length);
 }
 
-/* The FIN, which is the datagram's last packet, is answered by a FIN-ACK; each end keeps its close record. */
-static void close_both(size_t fin) {
-    bluefin_header_read read = bluefin_header_deserialise(datagram + index_cells[2 * fin], 20);
-    EXPECT(read.refusal == 0 && read.header.type_field == BLUEFIN_FIN);
-    uint64_t number = read.header.packet_number;
+/* The FIN takes the number after the data's, and goes alone in its datagram: the "own-datagram rule" of worker/writer.rs. */
+static bluefin_close_record send_fin(uint64_t next_packet_num, uint8_t fin[20]) {
+    bluefin_reserved reserved = bluefin_reserve_close_packet_num(next_packet_num);
+    EXPECT(reserved.refusal == 0 && reserved.number == next_packet_num);
+    bluefin_written written = bluefin_write_fin(SENDER, RECEIVER, reserved.number, fin, 20);
+    EXPECT(written.refusal == 0 && written.bytes == 20);
+    return bluefin_close_record_local_fin_sent(bluefin_close_new(false), reserved.number).close;
+}
 
-    bluefin_close_record sender = bluefin_close_record_local_fin_sent(bluefin_close_new(false), number).close;
+/* The FIN is due where the front number is its own. It is answered by a FIN-ACK of its number, alone too; each end keeps its close record. */
+static void close_both(bluefin_close_record sender, const uint8_t fin[20], uint64_t front_number) {
+    bluefin_header header = header_from(SENDER, RECEIVER, fin);
+    uint64_t number = header.packet_number;
+    EXPECT(header.type_field == BLUEFIN_FIN && number == front_number);
+
     bluefin_close_record receiver = bluefin_close_buffer_in_fin(bluefin_close_new(false), number).close;
     EXPECT(receiver.state == BLUEFIN_PEER_FIN_RECEIVED && receiver.state_fin == number && receiver.peer_fin_observed);
     bluefin_fin_ack_taken owed = bluefin_close_take_pending_fin_ack_send(receiver);
     EXPECT(owed.refusal == 0 && owed.was_pending && !owed.close.is_pending);
 
     uint8_t answer[20];
-    EXPECT(bluefin_write_fin_ack(2, 1, owed.number, answer, sizeof answer).bytes == 20);
-    read = bluefin_header_deserialise(answer, sizeof answer);
-    EXPECT(read.refusal == 0 && read.header.type_field == BLUEFIN_FIN_ACK);
-    sender = bluefin_close_buffer_in_fin_ack(sender, read.header.packet_number).close;
+    EXPECT(bluefin_write_fin_ack(RECEIVER, SENDER, owed.number, answer, sizeof answer).bytes == 20);
+    header = header_from(RECEIVER, SENDER, answer);
+    EXPECT(header.type_field == BLUEFIN_FIN_ACK && header.packet_number == number);
+    sender = bluefin_close_buffer_in_fin_ack(sender, header.packet_number).close;
     EXPECT(sender.is_received && sender.received_fin_ack_for == number);
     EXPECT(bluefin_close_mark_closed(sender).close.state == BLUEFIN_CLOSED);
-    printf("FIN %llu is answered, and closes\n", (unsigned long long)number);
+    printf("FIN %llu, in a datagram of its own, is answered, and closes\n", (unsigned long long)number);
 }
 
 int main(void) {
     static buffer b;
     bluefin_ack records[ACKS];
-    bluefin_header hello = {.source_connection_id = 1, .type_field = BLUEFIN_CLIENT_HELLO};
+    bluefin_header hello = {.source_connection_id = SENDER, .type_field = BLUEFIN_CLIENT_HELLO};
     EXPECT(bluefin_is_hello_packet(BLUEFIN_PACK_LEADER, hello) && !bluefin_is_client_ack_packet(BLUEFIN_PACK_LEADER, hello));
     fill_queue();
-    size_t length = send_all();
+    bluefin_data_packed data = send_all();
+    size_t length = data.bytes + 20 * data.packets;
 
     bluefin_parsed parsed = bluefin_from_bytes(datagram, length, index_cells, 2 * PACKETS);
     EXPECT(parsed.refusal == 0);
     printf("parsed %zu packets of %zu bytes\n", parsed.packets, length);
-    bluefin_parsed cut = bluefin_from_bytes(datagram, length - 1, index_cells, 2 * PACKETS);
-    EXPECT(cut.packets == 0);
-    bluefin_parsed kept = bluefin_from_bytes_into(datagram, length - 1, index_cells, 2 * PACKETS);
-    EXPECT(kept.refusal == cut.refusal && kept.cursor == cut.cursor);
-    printf("a byte less: refused %d at %zu, %zu packets before it\n", kept.refusal, kept.cursor, kept.packets);
-    EXPECT(bluefin_from_bytes_into(datagram, length, index_cells, 3).packets == 1);
-    EXPECT(bluefin_from_bytes(NULL, 0, NULL, 0).refusal == BLUEFIN_SHORT);
+    cut_short(length - 1);
 
     start_buffer(&b);
     EXPECT(bluefin_ordered_bytes_peek(b.small, b.marks, SLOTS, b.lengths, SLOTS, b.store, sizeof b.store) == BLUEFIN_EMPTY);
@@ -258,7 +277,10 @@ int main(void) {
     for (size_t i = 0; i < received.packets; i++)
         EXPECT(answers[i] == 0);
     printf("received %zu packets by one call\n", received.packets);
-    close_both(received.packets - 1);
     acknowledge(read_all(&b, records), records);
+
+    uint8_t fin[20];
+    bluefin_close_record sender = send_fin(data.next_packet_num, fin);
+    close_both(sender, fin, b.small.front_number);
     return 0;
 }
