@@ -171,7 +171,10 @@ unreserved : {A : Type 0} → false ≡ true → A
 unreserved e = absurd (false≢true e)
 
 computed : Computed
-unfolding run Fairly All In dataOf acceptedAll Accepted headerAt headerBytes joined readingLimit payloadMissing walkBy packetsOf flat parsed listed payloadSize byteLimit cut numbered removal shortened sum packing receiver.walk receiver.consumed receiver.payloads receiver.numbersFit buffer.view buffer.allWithin buffer.wellFormed creating accepting peeking consuming consumingBytes flatten window.member window.rising window.allHoldable window.wellFormed window.place window.numbers window.insertPacketNumber window.beforeHeld window.insertRange window.runLength window.consume
+unfolding run Fairly All In dataOf acceptedAll Accepted headerAt headerBytes joined readingLimit payloadMissing walkBy packetsOf flat parsed listed payloadSize byteLimit
+    cut numbered removal shortened sum packing receiver.walk receiver.consumed receiver.payloads receiver.numbersFit buffer.view buffer.allWithin buffer.wellFormed
+    creating accepting peeking consuming consumingBytes flatten window.member window.rising window.allHoldable window.wellFormed window.place window.numbers
+    window.insertPacketNumber window.beforeHeld window.insertRange window.runLength window.consume
 computed = record {
   new = refl;
   sends = (tt, (unreserved, (unreserved, (tt, (unreserved, (tt, (unreserved, tt)))))));
