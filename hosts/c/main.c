@@ -5,10 +5,10 @@
  * hosts/expected is what both print.
  */
 #include <stdio.h>
-#include <stdlib.h>
 #include <string.h>
 
 #include "bluefin.h"
+#include "expect.h"
 
 #define SLOTS 8
 #define WIDTH 1500
@@ -21,14 +21,6 @@
 #define PACKETS 16
 #define SENDER 1
 #define RECEIVER 2
-
-static void expect(bool holds, const char *what) {
-    if (!holds) {
-        fprintf(stderr, "not so: %s\n", what);
-        exit(1);
-    }
-}
-#define EXPECT(fact) expect(fact, #fact)
 
 /* ---- the layouts that a host in another language must have; the header has the sizes */
 
