@@ -10,4 +10,6 @@ pub mod Wrote
 pub mod Demand3
 pub mod Admits
 pub mod Sample
+pub mod Consequences
+pub mod Shown
 pub mod WholeDatagram

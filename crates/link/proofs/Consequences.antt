@@ -1,0 +1,135 @@
+-- What the claim of demand 3 says of the sample run (Sample.antt). The claim is taken as given, and each line of it is read off, not computed: a claim that
+-- said less would not give it, however it is proved. That it holds of the run is Shown.antt.
+-- Assumes nothing.
+use Prim.Native.Nat.{ℕ, zero, suc, _+_, _≤_, _<_}
+use mathlib.Core.Path.{_≡_, refl, sym, ap, _∙_}
+use mathlib.Core.Bool.{Bool, true, false, _||_, false≢true}
+use mathlib.Core.List.{List, [], _∷_, _++_, append-nil, flatten}
+use native.Mathlib.Omega.{arith}
+use native.Mathlib.Decide.{decLt}
+use lib.Dec.{eqb, lit≤, lit<}
+use lib.ListN.{length, length-append, length-replicate, take, replicate}
+use borrow.Author.Tests.{eqb-false}
+use Rattle.packet.specs.Packet.{Packet, joined}
+use Rattle.window.specs.Window.{member}
+use Rattle.link.specs.Demand3.{Link, WindowSide, pack, from-bytes, run, In, All, Reads, refusals, Start, Accepted, Covered, ToEmpty, Made-in, ReadsBack, ExpectsFirst, Stops, Demand3}
+use Rattle.link.proofs.Sample.{s, first, bytes, readAtHole, last, beforeHole, toHole, beforeConsume, toConsume, beforeLast, calls, holed, consumed}
+use Rattle.link.proofs.Sample.{packetA, packing-A, packed-A, output-A, entered, computed}
+
+-- ---- what the lines are applied to
+
+start-both : (a b : List ℕ) → Start a b → Start b a → a ≡ b
+start-both a b up down = by (up .rest) (up .whole) (ends (up .rest) (up .whole))
+  where
+    ends : (rest : List ℕ) → a ++ rest ≡ b → length rest ≡ 0
+    ends rest e = omega (arith, length-append a rest, ap length e, length-append b (down .rest), ap length (down .whole))
+
+    by : (rest : List ℕ) → a ++ rest ≡ b → length rest ≡ 0 → a ≡ b
+    by [] e none = sym (append-nil a) ∙ e
+    by (x ∷ rest) e none = absurd (omega arith)
+
+-- where the first packet was not accepted nothing is covered
+covers-none : (l : Link) (bytes rest : List ℕ) (payloads : List (List ℕ)) → member s (l .receiver .accepted) ≡ false
+    → Accepted l s payloads → bytes ++ rest ≡ flatten payloads → bytes ≡ []
+unfolding Accepted flatten
+covers-none l [] rest payloads gap accepted whole = refl
+covers-none l (b ∷ bytes) rest [] gap accepted whole = let z : _≡_ {A = ℕ} 0 1 = cc in absurd (omega arith)
+covers-none l (b ∷ bytes) rest (p ∷ payloads) gap accepted whole = absurd (false≢true (sym gap ∙ accepted .1))
+
+covers : Covered s (run first calls) bytes
+unfolding flatten
+covers = record { payloads = _; accepted = computed .accepted; start = record { rest = []; whole = refl } }
+
+empties : ToEmpty first calls
+empties = record { before = beforeLast; last = last; list = refl; reads = lit< tt; empty = computed .empty }
+
+empties-hole : ToEmpty first toHole
+empties-hole = record { before = beforeHole; last = readAtHole; list = refl; reads = lit< tt; empty = computed .atHole }
+
+all-read : (k : ℕ) → All Reads (replicate k last)
+unfolding All
+all-read zero = tt
+all-read (suc k) = (lit< tt, all-read k)
+
+-- where all from s to below e has entered and e has not, the window expects e
+expects-is : {d : WindowSide} (e : ℕ) → ExpectsFirst s d → s ≤ e → ((n : ℕ) → s ≤ n → n < e → member n (d .entered) ≡ true) → member e (d .entered) ≡ false → d .expects ≡ e
+expects-is {d} e x from all none =
+    elim (decLt (d .expects) e) [
+      | yes less ↦ absurd (false≢true (sym (x .absent) ∙ all (d .expects) (x .from) less))
+      | no more ↦ elim (decLt e (d .expects)) [
+        | yes less ↦ absurd (false≢true (sym none ∙ x .below e from less))
+        | no same ↦ omega arith
+      ]
+    ]
+
+three-entered : (n : ℕ) → s ≤ n → n < s + 3 → member n entered ≡ true
+unfolding member
+three-entered n from below = by (eqb (s + 2) n) (eqb s n) (eqb (s + 1) n) refl refl refl
+  where
+    by : (a b c : Bool) → eqb (s + 2) n ≡ a → eqb s n ≡ b → eqb (s + 1) n ≡ c → (a || (b || (c || false))) ≡ true
+    by true b c x y z = refl
+    by false true c x y z = refl
+    by false false true x y z = refl
+    by false false false x y z =
+        let third = eqb-false (s + 2) n x in
+        let one = eqb-false s n y in
+        let two = eqb-false (s + 1) n z in
+        absurd (omega arith)
+
+-- ---- what they say
+
+pub record Shows : Type 0 where
+  -- by `covered` with `toEmpty`: at the hole nothing is delivered, though packets were accepted behind it
+  pub stops : holed .receiver .delivered ≡ []
+  -- by `most` and `sent` with `toEmpty`: once it is filled all is, in order; and by `delivers`
+  pub reads : run first calls .receiver .delivered ≡ bytes
+  pub starts : Start (run first calls .receiver .delivered) bytes
+  -- by `taken` and `wasAccepted`: three packets were taken, the last of them accepted
+  pub front : consumed .receiver .buffer .state .«front_number» ≡ s + 3
+  pub accepted : member (s + 2) (consumed .receiver .accepted) ≡ true
+  -- by `atConsume`, where the window stands; by `notPast`, that it is not further
+  pub expects : consumed .acked .expects ≡ s + 3
+  pub notPast : consumed .acked .expects ≤ s + 3
+  -- by `wrote`: what the second packing wrote is read back as packet A
+  pub writes : ReadsBack from-bytes (take 24 (output-A .1)) (packetA ∷ []) (9 ∷ 9 ∷ [])
+  -- by `wellFormed`
+  pub never12 : In 12 (refusals (run first beforeLast) last) → ⊥
+  -- by `reaches`: so many further reads
+  pub further : ℕ
+  pub reaches : Stops (run first calls) (replicate further last)
+
+module _ (atHole : Demand3 s first toHole) (atConsume : Demand3 s first toConsume) (atEnd : Demand3 s first calls) where
+  longest-is : atEnd .longest ≡ bytes
+  longest-is = start-both (atEnd .longest) bytes (rw (computed .queued) at (atEnd .sent)) (atEnd .most bytes covers)
+
+  stops-at-hole : holed .receiver .delivered ≡ []
+  unfolding member
+  stops-at-hole =
+      let all : holed .receiver .delivered ≡ atHole .longest = atHole .toEmpty empties-hole in
+      let c : Covered s holed (atHole .longest) = atHole .covered in
+      all ∙ covers-none holed (atHole .longest) (c .start .rest) (c .payloads) (rw (computed .behind)) (c .accepted) (c .start .whole)
+
+  wrote-A : ReadsBack from-bytes (take 24 (output-A .1)) (packetA ∷ []) (9 ∷ 9 ∷ [])
+  wrote-A =
+      let made-in : Made-in first calls packing-A (pack 1 2 (replicate 24 0)) = record { before = _; after = _; list = refl; reached = refl } in
+      let w = atEnd .wrote packing-A 1 2 (replicate 24 0) packed-A made-in (computed .packs) in
+      let one : w .packets ≡ packetA ∷ [] = sym (ap (λ (made : List Packet). made ++ w .packets) (computed .makes)) ∙ sym (w .added) ∙ computed .made in
+      let written : take 24 (output-A .1) ≡ joined (w .packets) = w .written in
+      let back = w .readBack (lit< tt) (lit< tt) (lit< tt) from-bytes (9 ∷ 9 ∷ []) (lit≤ tt) in
+      rw (written, one) (rw one at back)
+
+  pub says : Shows
+  unfolding member
+  says = record {
+    stops = stops-at-hole;
+    reads = atEnd .toEmpty empties ∙ longest-is;
+    starts = rw longest-is at (atEnd .delivers);
+    front = rw (computed .counted) at (atConsume .taken);
+    accepted = atConsume .wasAccepted (s + 2) (lit≤ tt) (rw (computed .counted) (lit< tt));
+    expects = expects-is (s + 3) (atConsume .atConsume beforeConsume refl) (lit≤ tt) (rw (computed .entered) three-entered) (rw (computed .entered));
+    notPast = rw (computed .counted) at (atConsume .notPast);
+    writes = wrote-A;
+    never12 = atEnd .wellFormed (run first beforeLast) last (record { before = beforeLast; after = []; list = refl; reached = refl });
+    further = suc (atEnd .enough);
+    reaches = atEnd .reaches (replicate (suc (atEnd .enough)) last) (all-read (suc (atEnd .enough))) (omega (arith, length-replicate (suc (atEnd .enough)) last));
+  }
