@@ -1,7 +1,7 @@
 -- One packet: a header beside a payload, written and read alone. Document 01, "The header, last leaf"; core/packet.rs.
 use Prim.Native.Nat.{ℕ, _+_}
 use mathlib.Core.List.{List, [], _∷_, _++_}
-use lib.ListN.{length}
+use lib.ListN.{length, drop}
 use lib.Seq.{paste}
 use lib.Dec.{ltb}
 use Rattle.refusal.specs.Refusal.{numberOf}
@@ -35,6 +35,10 @@ serialisesInto p buf =
     (λ n. (refuses n, buf))
     (answers (20 + length (p .payload)), paste buf 0 (packetBytes p) (20 + length (p .payload)))
 
--- "A packet read alone (`BluefinPacket::deserialise`) is a header and all bytes after it; under 20 bytes: 1." The bytes after it: `drop 20`.
+-- "A packet read alone (`BluefinPacket::deserialise`) is a header and all bytes after it; under 20 bytes: 1."
 abbrev pub deserialises : List ℕ → Said BluefinHeader
 deserialises s = checks ((ltb (length s) 20, 1) ∷ []) (λ n. refusesAt n 0) (deserialisesAt s 0)
+
+-- "all bytes after it"
+abbrev pub payloadOf : List ℕ → List ℕ
+payloadOf s = drop 20 s

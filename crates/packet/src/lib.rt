@@ -7,11 +7,11 @@ use refusal::Refusal;
 ghost use mathlib.Core.Path.{_≡_};
 ghost use mathlib.Core.List.{List};
 ghost use Prim.Native.Nat.{ℕ, _+_, _≤_};
-ghost use lib.ListN.{length, drop};
+ghost use lib.ListN.{length};
 ghost use Rattle.refusal.specs.Said.{Said};
 ghost use Rattle.header.specs.Header.{headerReadSays};
 ghost use Rattle.header.specs.Types.{TypeTable};
-ghost use Rattle.packet.specs.Packet.{serialisesInto, deserialises, packetWrittenSays};
+ghost use Rattle.packet.specs.Packet.{serialisesInto, deserialises, payloadOf, packetWrittenSays};
 ghost use Rattle.packet.specs.Datagram.{parsed, parses, parsesInto, indexes, parsedSays};
 ghost use Rattle.packet.specs.Step.{Looked};
 
@@ -64,7 +64,7 @@ pub fn deserialise(bytes: &[u8]) -> HeaderRead
 
 // All bytes after a header, as a part of the slice; none where there is no whole header.
 pub fn payload_of(bytes: &[u8]) -> &[u8]
-    ensures { λ r. ⌜ now r ≡ drop 20 (now (bytes .entry)) ⌝ }
+    ensures { λ r. ⌜ now r ≡ payloadOf (now (bytes .entry)) ⌝ }
 {
     let n = bytes.len();
     if n < 20 {

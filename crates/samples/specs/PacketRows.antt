@@ -3,11 +3,11 @@ use Prim.Native.Nat.{ℕ}
 use mathlib.Core.Path.{_≡_}
 use mathlib.Core.Bool.{false}
 use mathlib.Core.List.{List, [], _∷_, _++_}
-use lib.ListN.{drop, replicate}
+use lib.ListN.{replicate}
 use Rattle.refusal.specs.Said.{Said, answers, refuses, refusesAt}
 use Rattle.header.specs.declared.PacketType.the-variants.{UnencryptedData, Ack, FinAck}
 use Rattle.header.specs.declared.BluefinHeader.{BluefinHeader}
-use Rattle.packet.specs.Packet.{serialisesInto, deserialises}
+use Rattle.packet.specs.Packet.{serialisesInto, deserialises, payloadOf}
 use Rattle.packet.specs.Datagram.{parses, parsesInto}
 use Rattle.samples.specs.Inputs.{Leaves, lent, security, header, headOf, head}
 
@@ -48,8 +48,8 @@ pub record PacketRows : Type 0 where
   pub reads-type-15 : deserialises (15 ∷ replicate 24 0) ≡ refusesAt 4 0
   pub type-7-in-19 : deserialises (7 ∷ replicate 18 0) ≡ refusesAt 1 0
   -- "all bytes after it", which `payload_of` gives
-  pub bytes-after : drop 20 (head 3 2 7 ++ replicate 5 8) ≡ replicate 5 8
-  pub no-byte-after : drop 20 (head 3 2 7) ≡ []
+  pub bytes-after : payloadOf (head 3 2 7 ++ replicate 5 8) ≡ replicate 5 8
+  pub no-byte-after : payloadOf (head 3 2 7) ≡ []
 
 -- ---- both parsers
 
