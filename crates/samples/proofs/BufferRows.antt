@@ -50,6 +50,7 @@ accept-rows = record {
   distance-2 = refl;
   distance-2-round-the-end = refl;
   distance-before-exhausted = refl;
+  distance-before-held = refl;
   distance-before-long = refl;
   exhausted = refl;
   exhausted-at-the-front = refl;

@@ -30,6 +30,8 @@ receive-acks-rows = record {
   one-of-two = refl;
   refused-ones = refl;
   tail = refl;
+  no-cell = refl;
   answers-short = refl;
+  answers-before-listing = refl;
   each-12 = refl;
 }

@@ -7,7 +7,7 @@ use lib.ListN.{replicate}
 use Rattle.refusal.specs.Said.{Said, answers, refuses}
 use Rattle.ordered_bytes.specs.declared.OrderedBytes.{OrderedBytes}
 use Rattle.ordered_bytes.specs.Buffer.{Buffer}
-use Rattle.ordered_bytes.specs.Calls.{creating, starting, Acceptance, accepting, peeking}
+use Rattle.ordered_bytes.specs.Calls.{creating, starting, accepting, peeking}
 use Rattle.samples.specs.Inputs.{lent}
 
 -- W, the front slot, the front number, the carry-over length
@@ -112,12 +112,13 @@ pub record AcceptRows : Type 0 where
   pub below : Refuses nothing 99 (1 ∷ []) 5
   pub below-before-long : Refuses nothing 99 (replicate 4 1) 5
   pub below-the-last : Refuses (nothingFrom (2 ^ 64 - 1)) (2 ^ 64 - 2) (1 ∷ []) 5
-  -- "n − front at least N, 6": before 9 and 11
+  -- "n − front at least N, 6": before 9, before 7 where the number N places earlier has its slot, and before 11
   pub distance-1 : Accepts nothing 101 (1 ∷ 2 ∷ [])
       (bufferOf (stateOf 3 0 100 0) (false ∷ true ∷ []) (0 ∷ 2 ∷ []) (99 ∷ 99 ∷ 99 ∷ 1 ∷ 2 ∷ 99 ∷ 99 ∷ 99 ∷ 99 ∷ []))
   pub distance-2 : Refuses nothing 102 (1 ∷ []) 6
   pub distance-2-round-the-end : Refuses secondSlotFirst 102 (1 ∷ []) 6
   pub distance-before-exhausted : Refuses (nothingFrom (2 ^ 64 - 3)) (2 ^ 64 - 1) (1 ∷ []) 6
+  pub distance-before-held : Refuses frontHeld 102 (1 ∷ []) 6
   pub distance-before-long : Refuses nothing 102 (replicate 4 1) 6
   -- "n = 2^64 − 1, 9": before 11
   pub exhausted : Refuses (nothingFrom (2 ^ 64 - 2)) (2 ^ 64 - 1) (1 ∷ []) 9

@@ -66,6 +66,8 @@ pub record ReceiveAcksRows : Type 0 where
       (answers 6) 6 (0 ∷ 0 ∷ 20 ∷ 0 ∷ 40 ∷ 0 ∷ 60 ∷ 0 ∷ 80 ∷ 0 ∷ 100 ∷ 0 ∷ []) (5 ∷ 0 ∷ 0 ∷ 5 ∷ 7 ∷ 10 ∷ []) (window 10 2) (10 ∷ 11 ∷ 99 ∷ [])
   pub tail : ReceivesAcks (window 10 0) (lent 3) (ackTen ++ (7 ∷ [])) (lent 4) (lent 2)
       (refusesAt 3 20) 1 (0 ∷ 0 ∷ 99 ∷ 99 ∷ []) (0 ∷ 99 ∷ []) (window 10 2) (10 ∷ 11 ∷ 99 ∷ [])
+  pub no-cell : ReceivesAcks (window 10 0) (lent 3) (ackTen ++ ackTen) (lent 2) (lent 1) (refuses 10) 1 (0 ∷ 0 ∷ []) (0 ∷ []) (window 10 2) (10 ∷ 11 ∷ 99 ∷ [])
   pub answers-short : ReceivesAcks (window 10 0) (lent 3) ackTen (lent 4) (lent 1) (refuses 10) 0 (lent 4) (lent 1) (window 10 0) (lent 3)
+  pub answers-before-listing : ReceivesAcks (window 10 0) (lent 3) (7 ∷ []) (lent 2) [] (refuses 10) 0 (lent 2) [] (window 10 0) (lent 3)
   pub each-12 : map (λ (m : SlidingWindow × List ℕ). receivingAcks (m .0) (m .1) ackTen (lent 2) []) windows.malformed
       ≡ map (λ (m : SlidingWindow × List ℕ). record { said = refuses 12; cells = 0; index = lent 2; answers = []; state = record { window = m .0; cells = m .1 } }) windows.malformed
