@@ -1,7 +1,7 @@
 -- What an unrefused packing wrote is what it added to the packets made, and both parsers read it back as these.
 -- That packets written end to end are read back is taken from packet/proofs/Trip.antt, what packing makes from writer/proofs/Made.antt.
 -- Assumes nothing.
-use Prim.Native.Nat.{ℕ, suc, _≤_, _<_, _^_}
+use Prim.Native.Nat.{ℕ, suc, _≤_}
 use mathlib.Core.Path.{_≡_, refl, sym, ap, _∙_}
 use mathlib.Core.List.{List, [], _∷_}
 use native.Mathlib.Omega.{arith}

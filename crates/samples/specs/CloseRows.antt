@@ -15,7 +15,6 @@ use Rattle.close_handler.specs.declared.CloseState.the-variants.{Active, PeerFi
 use Rattle.close_handler.specs.declared.FinNumber.{FinNumber}
 use Rattle.close_handler.specs.declared.FinNumber.the-variants.{Nothing, Number}
 use Rattle.close_handler.specs.Close.{fresh, afterFin, afterFinAck, afterLocalFin, afterClosed, taken}
-use Rattle.net.specs.declared.BluefinHost.{BluefinHost}
 use Rattle.net.specs.declared.BluefinHost.the-variants.{PackLeader, Client, Other}
 use Rattle.net.specs.Control.{headerAlone, writesFin, writesFinAck}
 use Rattle.net.specs.Hello.{isHello, isClientAck}

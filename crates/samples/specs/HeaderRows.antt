@@ -7,7 +7,6 @@ use lib.ListN.{replicate}
 use Rattle.refusal.specs.Said.{answers, refuses, refusesAt, refusalIn}
 use Rattle.header.specs.Types.{rowOf}
 use Rattle.header.specs.Header.{serialisesSecurity, deserialisesSecurity, serialisesInto, deserialises}
-use Rattle.header.specs.declared.TypeRow.{TypeRow}
 use Rattle.header.specs.declared.PacketType.the-variants.{UnencryptedData, Ack, FinAck}
 use Rattle.header.specs.declared.BluefinHeader.{BluefinHeader}
 use Rattle.samples.specs.Inputs.{Leaves, lent, security, header, head}

@@ -1,7 +1,7 @@
 -- What the rows of the second table share (Boundaries.antt): lent bytes, headers by their fields, and headers by their bytes.
 use Prim.Native.Nat.{ℕ}
 use mathlib.Core.Path.{_≡_}
-use mathlib.Core.Bool.{Bool, false}
+use mathlib.Core.Bool.{Bool}
 use mathlib.Core.List.{List, [], _∷_}
 use lib.ListN.{replicate}
 use Rattle.refusal.specs.Said.{Said}

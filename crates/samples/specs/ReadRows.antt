@@ -3,7 +3,7 @@ use Prim.Native.Nat.{ℕ, _-_, _^_}
 use mathlib.Core.Path.{_≡_}
 use mathlib.Core.Bool.{true, false}
 use mathlib.Core.List.{List, [], _∷_, map}
-use Rattle.refusal.specs.Said.{Said, answers, refuses}
+use Rattle.refusal.specs.Said.{answers, refuses}
 use Rattle.ordered_bytes.specs.Buffer.{Buffer}
 use Rattle.ordered_bytes.specs.Calls.{consuming, consumingBytes}
 use Rattle.samples.specs.Inputs.{lent}

@@ -1,9 +1,8 @@
 -- Boundaries of the window of acknowledged numbers: document 01, "From acks to the window".
 use Prim.Native.Nat.{ℕ, _-_, _^_}
 use mathlib.Core.Path.{_≡_}
-use mathlib.Core.Option.{Option, none, some}
+use mathlib.Core.Option.{none, some}
 use mathlib.Core.List.{List, [], _∷_, map}
-use lib.ListN.{replicate}
 use Rattle.refusal.specs.Said.{Said, answers, refuses}
 use Rattle.window.specs.declared.SlidingWindow.{SlidingWindow}
 use Rattle.window.specs.Window.{Outcome, insertPacketNumber, insertRange, consume}
