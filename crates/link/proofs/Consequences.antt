@@ -41,15 +41,15 @@ unfolding flatten
 covers = record { payloads = _; accepted = computed .accepted; start = record { rest = []; whole = refl } }
 
 empties : ToEmpty first calls
-empties = record { before = beforeLast; last = last; list = refl; reads = lit< tt; empty = computed .empty }
+empties = record { before = beforeLast; last = last; list = refl; reads = omega arith; empty = computed .empty }
 
 empties-hole : ToEmpty first toHole
-empties-hole = record { before = beforeHole; last = readAtHole; list = refl; reads = lit< tt; empty = computed .atHole }
+empties-hole = record { before = beforeHole; last = readAtHole; list = refl; reads = omega arith; empty = computed .atHole }
 
 all-read : (k : ℕ) → All Reads (replicate k last)
 unfolding All
 all-read zero = tt
-all-read (suc k) = (lit< tt, all-read k)
+all-read (suc k) = (omega arith, all-read k)
 
 -- where all from s to below e has entered and e has not, the window expects e
 expects-is : {d : WindowSide} (e : ℕ) → ExpectsFirst s d → s ≤ e → ((n : ℕ) → s ≤ n → n < e → member n (d .entered) ≡ true) → member e (d .entered) ≡ false → d .expects ≡ e

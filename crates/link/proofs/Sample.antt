@@ -149,13 +149,14 @@ entered = (s + 2) ∷ s ∷ (s + 1) ∷ []
 
 -- ---- what is computed of it
 
--- each part keeps the premises; the read at the hole says 8, with two packets accepted behind it; all eight bytes are queued and covered; three packets are
--- counted; the last read says 8; packet A is the first made
+-- each part keeps the premises, and both reads that took packets give an ack; the read at the hole says 8, with two packets accepted behind it; all eight
+-- bytes are queued and covered; three packets are counted; the last read says 8; packet A is the first made
 pub record Computed : Type 0 where
   pub new : creating 1500 s marks lengths store .said ≡ answers state
   pub sends : Fairly first sending
   pub arrives : Fairly sent arriving
   pub reads : Fairly arrived reading
+  pub acks : emptied .receiver .acks ≡ record { base = s + 2; count = 1 } ∷ record { base = s; count = 2 } ∷ []
   pub enters : Fairly emptied entering
   pub consumes : Fairly (run first beforeConsume) (consume-window ∷ [])
   pub closes : Fairly consumed closing
@@ -190,6 +191,7 @@ computed = record {
     (tt, (tt, (((itself packetA (inl refl), tt), (inl refl, tt)), (tt, tt)))),
   );
   reads = (tt, (tt, (tt, tt)));
+  acks = refl;
   enters = (
     inr (inl refl),
     (
