@@ -14,7 +14,7 @@ use Rattle.packet.proofs.Trip.{Readable, parsed-joined, listed-joined}
 use Rattle.packet.proofs.Index.{answered-all, listed-all, listed-parsed}
 use Rattle.writer.specs.Packing.{packing, byteLimit, dataPacket, numbered, packetsMade}
 use Rattle.writer.specs.declared.DataPacked.{DataPacked}
-use Rattle.writer.proofs.Made.{Answered, answered, count-made, made-fits, readable-made, written-made}
+use Rattle.writer.proofs.Made.{Answered, answered, made-counted, made-fits, made-readable, written-made}
 use Rattle.link.specs.Demand3.{Link, Parser, from-bytes, from-bytes-into, dataOf, ReadsBack, Wrote}
 
 -- all packets made carry data
@@ -52,15 +52,14 @@ module _ (l : Link) (src dst : ℕ) (out : List ℕ) (p : DataPacked) (e : packi
   pub wrote : Wrote l src dst out p
   unfolding made
   wrote =
-      let few : p .packets ≡ _ = ap (λ (x : DataPacked). x .packets) (did .said) in
-      let count : length made ≡ p .packets = count-made byteLimit src dst (l .sender .next) (l .sender .queue .bytes) ∙ sym few in
+      let count = made-counted byteLimit (l .sender .queue) (l .sender .next) src dst out p did in
       record {
         packets = made;
         counted = count;
         added = rw e;
         written = written-made byteLimit (l .sender .queue) (l .sender .next) src dst out p did;
         readBack = λ source destination some parser index room.
-            reads-back (readable-made src dst source destination byteLimit (l .sender .next) (l .sender .queue .bytes) (rw few at (did .numbers)) (rw few at some))
+            reads-back (made-readable byteLimit (l .sender .queue) (l .sender .next) src dst out p did source destination some)
             (made-fits byteLimit src dst (l .sender .next) (l .sender .queue .bytes) (le-refl byteLimit))
             (data-numbered src dst (l .sender .next) _) index (rw count room) parser;
       }

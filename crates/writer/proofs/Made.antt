@@ -1,4 +1,4 @@
--- What packing makes: payloads that are the bytes taken, packets numbered in a row, a datagram that parsing reads back, and a queue whose lengths again add up.
+-- What packing makes: payloads that are the bytes taken, packets numbered in a row, a datagram of packets that can be read back, and a queue whose lengths again add up.
 -- Assumes nothing.
 use Prim.Native.Nat.{ℕ, zero, suc, _+_, _-_, _*_, _^_, _<_, _≤_, min}
 use mathlib.Core.Path.{_≡_, refl, sym, ap, _∙_}
@@ -14,8 +14,8 @@ use Rattle.refusal.specs.Said.{Said, answers, refuses}
 use Rattle.refusal.proofs.Checks.{Checked, passes, fails, checked}
 use Rattle.lists.specs.Numbers.{largest}
 use Rattle.packet.specs.Packet.{Packet, joined}
-use Rattle.packet.specs.Datagram.{readingLimit, cellsIn, parsed, parses, listed}
-use Rattle.packet.proofs.Trip.{Honest, Readable, last, before, parsed-joined, listed-joined}
+use Rattle.packet.specs.Datagram.{readingLimit}
+use Rattle.packet.proofs.Trip.{Honest, Readable, last, before}
 use Rattle.writer.specs.declared.DataPacked.{DataPacked}
 use Rattle.writer.specs.Packing.{Queue, payloadSize, byteLimit, bytesTaken, packetsFor, cut, payloadsOf, dataPacket, numbered, packetsMade, removal, removed, shortened, dequeued, sum, packing}
 use Rattle.writer.proofs.Run.{packets-zero, packets-suc, length-run}
@@ -238,21 +238,15 @@ module _ (limit : ℕ) (queue : Queue) (next src dst : ℕ) (out : List ℕ) (d 
         let part : length (take n (joined made)) ≡ n = length-take-le n (joined made) (omega arith) in
         rw (a .left) (take-at (take n (joined made)) (drop (0 + n) out) n part ∙ take-all n (joined made) (omega arith))
 
-    -- and parsing it gives exactly them
-    module _ (small : limit ≤ byteLimit) (source : src < 2 ^ 32) (destination : dst < 2 ^ 32) (some : 0 < d .packets) (index : List ℕ) (room : d .packets ≤ cellsIn index) where
-      count : d .packets ≡ length made
-      count = ap (λ (x : DataPacked). x .packets) (a .said) ∙ sym (count-made limit src dst next (queue .bytes))
+    few : d .packets ≡ packets limit (queue .bytes)
+    few = ap (λ (x : DataPacked). x .packets) (a .said)
 
-      made-readable : Readable made
-      made-readable =
-          let few : d .packets ≡ packets limit (queue .bytes) = ap (λ (x : DataPacked). x .packets) (a .said) in
-          readable-made src dst source destination limit next (queue .bytes) (rw few at (a .numbers)) (rw few at some)
+    pub made-counted : length made ≡ d .packets
+    made-counted = count-made limit src dst next (queue .bytes) ∙ sym few
 
-      pub parsed-written : parsed datagram (cellsIn index) ≡ answers (d .packets)
-      parsed-written = rw (written-made, count) (parsed-joined made-readable (made-fits limit src dst next (queue .bytes) small) index (rw count at room))
-
-      pub listed-written : listed datagram (parses datagram index .1) (d .packets) ≡ made
-      listed-written = rw (written-made, count) (listed-joined made-readable (made-fits limit src dst next (queue .bytes) small) index (rw count at room))
+    -- and where there are any they can be read back (packet/proofs/Trip.antt); link/proofs/Wrote.antt does so with both parsers
+    pub made-readable : src < 2 ^ 32 → dst < 2 ^ 32 → 0 < d .packets → Readable made
+    made-readable source destination some = readable-made src dst source destination limit next (queue .bytes) (rw few at (a .numbers)) (rw few at some)
 
 -- ---- the queue that a packing leaves
 
