@@ -3,18 +3,22 @@
 -- Assumes nothing.
 use Prim.Native.Nat.{ℕ, zero, suc, _+_, _≤_, _<_}
 use mathlib.Core.Path.{_≡_, refl, sym, ap, _∙_}
+use mathlib.Core.Logic.{_⊎_}
 use mathlib.Core.Bool.{Bool, true, false, _||_, false≢true}
 use mathlib.Core.List.{List, [], _∷_, _++_, append-nil, flatten}
 use native.Mathlib.Omega.{arith}
 use native.Mathlib.Decide.{decLt}
 use lib.Dec.{eqb, lit≤, lit<}
-use lib.ListN.{length, length-append, length-replicate, take, replicate}
+use lib.ListN.{length, length-append, length-replicate, replicate}
 use borrow.Author.Tests.{eqb-false}
+use Rattle.refusal.specs.Said.{answers}
 use Rattle.packet.specs.Packet.{Packet, joined}
+use Rattle.packet.specs.Datagram.{listed}
 use Rattle.window.specs.Window.{member}
-use Rattle.link.specs.Demand3.{Link, WindowSide, pack, from-bytes, run, In, All, Reads, refusals, Start, Accepted, Covered, ToEmpty, Made-in, ReadsBack, ExpectsFirst, Stops, Demand3}
+use Rattle.link.specs.Demand3.{Link, WindowSide, Call, pack, Parser, parsing, indexed, run, In, All, Reads, refusals, Start, Accepted, Covered, ToEmpty, Made-in, ReadsBack, ExpectsFirst}
+use Rattle.link.specs.Demand3.{Stops, Demand3}
 use Rattle.link.proofs.Sample.{s, first, bytes, readAtHole, last, beforeHole, toHole, beforeConsume, toConsume, beforeLast, calls, holed, consumed}
-use Rattle.link.proofs.Sample.{packetA, packing-A, packed-A, output-A, entered, computed}
+use Rattle.link.proofs.Sample.{packetA, packing-A, packed-A, written-A, entered, computed}
 
 -- ---- what the lines are applied to
 
@@ -90,13 +94,18 @@ pub record Shows : Type 0 where
   -- by `atConsume`, where the window stands; by `notPast`, that it is not further
   pub expects : consumed .acked .expects ≡ s + 3
   pub notPast : consumed .acked .expects ≤ s + 3
-  -- by `wrote`: what the second packing wrote is read back as packet A
-  pub writes : ReadsBack from-bytes (take 24 (output-A .1)) (packetA ∷ []) (9 ∷ 9 ∷ [])
-  -- by `wellFormed`
-  pub never12 : In 12 (refusals (run first beforeLast) last) → ⊥
-  -- by `reaches`: so many further reads
+  -- by `wrote`: what the second packing wrote is packet A, as either parser counts and lists it
+  pub counts : (parser : Parser) → parsing parser written-A (9 ∷ 9 ∷ []) .0 ≡ answers 1
+  pub lists : (parser : Parser) → listed written-A (parsing parser written-A (9 ∷ 9 ∷ []) .1) 1 ≡ packetA ∷ []
+  pub indexes : (parser : Parser) → indexed parser written-A (9 ∷ 9 ∷ []) ≡ packetA ∷ []
+  -- by `wellFormed`: no call is refused with 12
+  pub never12 : (on : Link) (call : Call) → Made-in first calls on call → In 12 (refusals on call) → ⊥
+  -- by `reaches`: after so many further reads one was refused with 8 or 10
   pub further : ℕ
-  pub reaches : Stops (run first calls) (replicate further last)
+  pub on : Link
+  pub call : Call
+  pub among : Made-in (run first calls) (replicate further last) on call
+  pub stopped : In 8 (refusals on call) ⊎ In 10 (refusals on call)
 
 module _ (atHole : Demand3 s first toHole) (atConsume : Demand3 s first toConsume) (atEnd : Demand3 s first calls) where
   longest-is : atEnd .longest ≡ bytes
@@ -109,14 +118,19 @@ module _ (atHole : Demand3 s first toHole) (atConsume : Demand3 s first toConsum
       let c : Covered s holed (atHole .longest) = atHole .covered in
       all ∙ covers-none holed (atHole .longest) (c .start .rest) (c .payloads) (rw (computed .behind)) (c .accepted) (c .start .whole)
 
-  wrote-A : ReadsBack from-bytes (take 24 (output-A .1)) (packetA ∷ []) (9 ∷ 9 ∷ [])
-  wrote-A =
+  wrote-A : (parser : Parser) → ReadsBack parser written-A (packetA ∷ []) (9 ∷ 9 ∷ [])
+  wrote-A parser =
       let made-in : Made-in first calls packing-A (pack 1 2 (replicate 24 0)) = record { before = _; after = _; list = refl; reached = refl } in
       let w = atEnd .wrote packing-A 1 2 (replicate 24 0) packed-A made-in (computed .packs) in
       let one : w .packets ≡ packetA ∷ [] = sym (ap (λ (made : List Packet). made ++ w .packets) (computed .makes)) ∙ sym (w .added) ∙ computed .made in
-      let written : take 24 (output-A .1) ≡ joined (w .packets) = w .written in
-      let back = w .readBack (lit< tt) (lit< tt) (lit< tt) from-bytes (9 ∷ 9 ∷ []) (lit≤ tt) in
+      let written : written-A ≡ joined (w .packets) = w .written in
+      let back = w .readBack (lit< tt) (lit< tt) (lit< tt) parser (9 ∷ 9 ∷ []) (lit≤ tt) in
       rw (written, one) (rw one at back)
+
+  stops : Stops (run first calls) (replicate (suc (atEnd .enough)) last)
+  stops =
+      let many = suc (atEnd .enough) in
+      atEnd .reaches (replicate many last) (all-read many) (omega (arith, length-replicate many last))
 
   pub says : Shows
   unfolding member
@@ -128,8 +142,13 @@ module _ (atHole : Demand3 s first toHole) (atConsume : Demand3 s first toConsum
     accepted = atConsume .wasAccepted (s + 2) (lit≤ tt) (rw (computed .counted) (lit< tt));
     expects = expects-is (s + 3) (atConsume .atConsume beforeConsume refl) (lit≤ tt) (rw (computed .entered) three-entered) (rw (computed .entered));
     notPast = rw (computed .counted) at (atConsume .notPast);
-    writes = wrote-A;
-    never12 = atEnd .wellFormed (run first beforeLast) last (record { before = beforeLast; after = []; list = refl; reached = refl });
+    counts = λ parser. wrote-A parser .counts;
+    lists = λ parser. wrote-A parser .lists;
+    indexes = λ parser. wrote-A parser .indexes;
+    never12 = atEnd .wellFormed;
     further = suc (atEnd .enough);
-    reaches = atEnd .reaches (replicate (suc (atEnd .enough)) last) (all-read (suc (atEnd .enough))) (omega (arith, length-replicate (suc (atEnd .enough)) last));
+    on = stops .on;
+    call = stops .call;
+    among = stops .made;
+    stopped = stops .stopped;
   }

@@ -7,7 +7,7 @@ use mathlib.Core.Logic.{inl, inr}
 use mathlib.Core.Bool.{Bool, true, false, false≢true}
 use mathlib.Core.List.{List, [], _∷_, _++_, flatten}
 use lib.Dec.{lit≤, lit<}
-use lib.ListN.{replicate}
+use lib.ListN.{take, replicate}
 use Rattle.refusal.specs.Said.{Said, answers}
 use Rattle.header.specs.Header.{headerAt, headerBytes}
 use Rattle.packet.specs.Packet.{Packet, joined}
@@ -20,7 +20,7 @@ use Rattle.ordered_bytes.specs.Calls.{creating, accepting, peeking, consuming, 
 use Rattle.ordered_bytes.specs.declared.OrderedBytes.{OrderedBytes}
 use Rattle.window.specs.Window as window
 use Rattle.link.specs.Demand3.{Link, Call, enqueue, pack, arrive, read, read-pieces, peek, insert, insert-range, consume-window, reserve}
-use Rattle.link.specs.Demand3.{from-bytes, from-bytes-into, fresh, step, run, Fairly, Premises, All, In, dataOf, acceptedAll, MadeEarlier, refusals, Accepted}
+use Rattle.link.specs.Demand3.{from-bytes, from-bytes-into, fresh, step, run, Fairly, Premises, All, In, dataOf, acceptedAll, MadeEarlier, acceptRefusals, refusals, Accepted}
 use Rattle.link.proofs.Runs.{fairly-append, fairly-before}
 
 -- ---- the run
@@ -61,7 +61,7 @@ packetC = dataPacket 1 2 (s + 2) (8 ∷ [])
 abbrev pub bytes : List ℕ
 bytes = 1 ∷ 2 ∷ 3 ∷ 4 ∷ 5 ∷ 6 ∷ 7 ∷ 8 ∷ []
 
--- the first packing is refused with 10
+-- the first packing has no room
 abbrev pub sending : List Call
 sending =
     enqueue ((1 ∷ 2 ∷ []) ∷ [] ∷ (3 ∷ 4 ∷ []) ∷ [])
@@ -73,7 +73,7 @@ sending =
     ∷ pack 1 2 (replicate 21 0)
     ∷ []
 
--- the front packet is missing: `peek` and the read are refused with 8
+-- the front packet is missing, and there is nothing to read
 abbrev pub early : List Call
 early = arrive from-bytes-into (joined (packetB ∷ packetC ∷ [])) (replicate 4 9) (packetC ∷ packetB ∷ []) ∷ peek ∷ []
 
@@ -83,15 +83,15 @@ readAtHole = read 5 (replicate 5 0)
 abbrev pub arriving : List Call
 arriving = early ++ (readAtHole ∷ arrive from-bytes (joined (packetA ∷ [])) (9 ∷ 9 ∷ []) (packetA ∷ []) ∷ peek ∷ [])
 
--- five bytes, a read refused with 10, and the rest: a carry-over and a packet
+-- five bytes, a read with too short a buffer, and the rest: a carry-over and a packet
 abbrev pub reading : List Call
 reading = read 5 (replicate 8 0) ∷ read 9 (replicate 8 0) ∷ read-pieces 2 (replicate 8 0) (replicate 8 0) ∷ []
 
--- the second insert is refused with 7
+-- the number of the single insert has entered with the range
 abbrev pub entering : List Call
 entering = insert-range s 2 ∷ insert (s + 1) ∷ insert (s + 2) ∷ []
 
--- a FIN's number, a packing that has nothing to pack, and a packet that comes again and is refused with 5
+-- a FIN's number, a packing that has nothing to pack, and a packet that comes again
 abbrev pub closing : List Call
 closing = reserve ∷ pack 1 2 [] ∷ arrive from-bytes-into (joined (packetA ∷ [])) (9 ∷ 9 ∷ []) (packetA ∷ []) ∷ []
 
@@ -143,14 +143,23 @@ packed-A = record { bytes = 4; packets = 1; «next_packet_num» = s + 1; «entri
 abbrev pub output-A : Said DataPacked × List ℕ
 output-A = packing byteLimit (packing-A .sender .queue) (packing-A .sender .next) 1 2 (replicate 24 0)
 
+-- .. and the bytes that it wrote
+abbrev pub written-A : List ℕ
+written-A = take 24 (output-A .1)
+
 -- the numbers that have entered
 abbrev pub entered : List ℕ
 entered = (s + 2) ∷ s ∷ (s + 1) ∷ []
 
 -- ---- what is computed of it
 
--- each part keeps the premises, and both reads that took packets give an ack; the read at the hole says 8, with two packets accepted behind it; all eight
--- bytes are queued and covered; three packets are counted; the last read says 8; packet A is the first made
+-- what each call of a list is refused with
+unfoldable pub trace : Link → List Call → List (List ℕ)
+trace l [] = []
+trace l (c ∷ cs) = refusals l c ∷ trace (step l c) cs
+
+-- each part keeps the premises, and both reads that took packets give an ack; part by part, what each call is refused with; the read at the hole says 8, with
+-- two packets accepted behind it; all eight bytes are queued and covered; three packets are counted; the last read says 8; packet A is the first made
 pub record Computed : Type 0 where
   pub new : creating 1500 s marks lengths store .said ≡ answers state
   pub sends : Fairly first sending
@@ -161,6 +170,14 @@ pub record Computed : Type 0 where
   pub consumes : Fairly (run first beforeConsume) (consume-window ∷ [])
   pub closes : Fairly consumed closing
   pub ends : Fairly (run first beforeLast) (last ∷ [])
+  pub refused : trace first calls
+      ≡ ([] ∷ (10 ∷ []) ∷ (0 ∷ []) ∷ [] ∷ (0 ∷ []) ∷ [] ∷ (0 ∷ []) ∷ [])
+      ++ ((0 ∷ 0 ∷ 0 ∷ []) ∷ (8 ∷ []) ∷ (8 ∷ []) ∷ (0 ∷ 0 ∷ []) ∷ (0 ∷ []) ∷ [])
+      ++ ((0 ∷ []) ∷ (10 ∷ []) ∷ (0 ∷ []) ∷ [])
+      ++ ((0 ∷ []) ∷ (7 ∷ []) ∷ (0 ∷ []) ∷ [])
+      ++ ((0 ∷ []) ∷ [])
+      ++ ((0 ∷ []) ∷ (0 ∷ []) ∷ (0 ∷ 5 ∷ []) ∷ [])
+      ++ ((8 ∷ []) ∷ [])
   pub atHole : In 8 (refusals (run first beforeHole) readAtHole)
   pub behind : holed .receiver .accepted ≡ (s + 1) ∷ (s + 2) ∷ []
   pub queued : run first calls .sender .queued ≡ bytes
@@ -179,7 +196,7 @@ unreserved : {A : Type 0} → false ≡ true → A
 unreserved e = absurd (false≢true e)
 
 pub computed : Computed
-unfolding run Fairly All In dataOf acceptedAll Accepted headerAt headerBytes joined readingLimit payloadMissing walkBy packetsOf flat parsed listed payloadSize byteLimit
+unfolding run trace Fairly All In dataOf acceptedAll acceptRefusals Accepted headerAt headerBytes joined readingLimit payloadMissing walkBy packetsOf flat parsed listed payloadSize byteLimit
     cut numbered removal shortened sum packing receiver.walk receiver.consumed receiver.payloads receiver.numbersFit buffer.view buffer.allWithin buffer.wellFormed
     creating accepting peeking consuming consumingBytes flatten window.member window.rising window.allHoldable window.wellFormed window.place window.numbers
     window.insertPacketNumber window.beforeHeld window.insertRange window.runLength window.consume
@@ -202,6 +219,7 @@ computed = record {
   consumes = (tt, tt);
   closes = (tt, (λ e. refl, (((itself packetA (inl refl), tt), (inl refl, tt)), tt)));
   ends = (tt, tt);
+  refused = refl;
   atHole = inl refl;
   behind = refl;
   queued = refl;
