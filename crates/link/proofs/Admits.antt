@@ -4,7 +4,7 @@ use Prim.Native.Nat.{ℕ}
 use mathlib.Core.Path.{_≡_, refl}
 use native.Mathlib.Omega.{arith}
 use Rattle.writer.specs.Packing.{payloadSize}
-use Rattle.link.specs.Demand3.{read, read-pieces}
+use Rattle.link.specs.Demand3.{on-receiver, read, read-pieces, reads, reads-pieces}
 use Rattle.link.specs.Admits.{Admits}
 
 pub admits : Admits
@@ -22,8 +22,9 @@ admits = record {
   madeEarlier = λ l p made given number payload. record { original = made; made = given; number = number; payload = payload };
   insertsRange = λ l a given. given;
   inserts = λ l a n given from below. record { ack = a; given = given; from = from; below = below };
-  begins = λ s w o marks lengths store cells calls start wide new fair. record { start = omega (arith, start); new = new; wide = omega (arith, wide); fair = fair };
-  empties = λ l before len out asked eight. record { before = before; last = read len out; list = refl; reads = omega (arith, asked); empty = eight };
-  emptiesPieces = λ l before limit out list asked eight. record { before = before; last = read-pieces limit out list; list = refl; reads = omega (arith, asked); empty = eight };
+  begins = λ s w o m calls start wide new fair. record { start = omega (arith, start); new = new; wide = omega (arith, wide); fair = fair };
+  empties = λ l before len out asked eight. record { before = before; last = on-receiver (read len out); list = refl; reads = reads len out (omega (arith, asked)); empty = eight };
+  emptiesPieces = λ l before limit out list asked eight.
+      record { before = before; last = on-receiver (read-pieces limit out list); list = refl; reads = reads-pieces limit out list (omega (arith, asked)); empty = eight };
   covers = λ s l payloads bytes rest accepted whole. record { payloads = payloads; accepted = accepted; start = record { rest = rest; whole = whole } };
 }

@@ -15,8 +15,8 @@ use Rattle.refusal.specs.Said.{answers}
 use Rattle.packet.specs.Packet.{Packet, joined}
 use Rattle.packet.specs.Datagram.{listed}
 use Rattle.window.specs.Window.{member}
-use Rattle.link.specs.Demand3.{Link, WindowSide, Call, pack, Parser, parsing, indexed, run, In, All, Reads, refusals, Start, Accepted, Covered, ToEmpty, Made-in, ReadsBack, ExpectsFirst}
-use Rattle.link.specs.Demand3.{Stops, Demand3}
+use Rattle.link.specs.Demand3.{Link, WindowSide, Call, on-sender, pack, Parser, parsing, indexed, run, In, All, Reads, reads, refusals, Start, Accepted, Covered, ToEmpty}
+use Rattle.link.specs.Demand3.{Made-in, ReadsBack, ExpectsFirst, Stops, Demand3}
 use Rattle.link.proofs.Sample.{s, first, bytes, readAtHole, last, beforeHole, toHole, beforeConsume, toConsume, beforeLast, calls, holed, consumed}
 use Rattle.link.proofs.Sample.{packetA, packing-A, packed-A, written-A, entered, computed}
 
@@ -44,16 +44,19 @@ covers : Covered s (run first calls) bytes
 unfolding flatten
 covers = record { payloads = _; accepted = computed .accepted; start = record { rest = []; whole = refl } }
 
+reads-last : Reads last
+reads-last = reads 1 (replicate 8 0) (omega arith)
+
 empties : ToEmpty first calls
-empties = record { before = beforeLast; last = last; list = refl; reads = omega arith; empty = computed .empty }
+empties = record { before = beforeLast; last = last; list = refl; reads = reads-last; empty = computed .empty }
 
 empties-hole : ToEmpty first toHole
-empties-hole = record { before = beforeHole; last = readAtHole; list = refl; reads = omega arith; empty = computed .atHole }
+empties-hole = record { before = beforeHole; last = readAtHole; list = refl; reads = reads 5 (replicate 5 0) (omega arith); empty = computed .atHole }
 
 all-read : (k : ℕ) → All Reads (replicate k last)
 unfolding All
 all-read zero = tt
-all-read (suc k) = (omega arith, all-read k)
+all-read (suc k) = (reads-last, all-read k)
 
 -- where all from s to below e has entered and e has not, the window expects e
 expects-is : {d : WindowSide} (e : ℕ) → ExpectsFirst s d → s ≤ e → ((n : ℕ) → s ≤ n → n < e → member n (d .entered) ≡ true) → member e (d .entered) ≡ false → d .expects ≡ e
@@ -97,7 +100,7 @@ pub record Shows : Type 0 where
   -- by `wrote`: what the second packing wrote is packet A, as either parser counts and lists it
   pub counts : (parser : Parser) → parsing parser written-A (9 ∷ 9 ∷ []) .0 ≡ answers 1
   pub lists : (parser : Parser) → listed written-A (parsing parser written-A (9 ∷ 9 ∷ []) .1) 1 ≡ packetA ∷ []
-  pub indexes : (parser : Parser) → indexed parser written-A (9 ∷ 9 ∷ []) ≡ packetA ∷ []
+  pub indexes : (parser : Parser) (expected : ℕ) → indexed expected parser written-A (9 ∷ 9 ∷ []) ≡ packetA ∷ []
   -- by `wellFormed`: no call is refused with 12
   pub never12 : (on : Link) (call : Call) → Made-in first calls on call → In 12 (refusals on call) → ⊥
   -- by `reaches`: after so many further reads one was refused with 8 or 10
@@ -108,45 +111,45 @@ pub record Shows : Type 0 where
   pub stopped : In 8 (refusals on call) ⊎ In 10 (refusals on call)
 
 module _ (atHole : Demand3 s first toHole) (atConsume : Demand3 s first toConsume) (atEnd : Demand3 s first calls) where
-  longest-is : atEnd .longest ≡ bytes
-  longest-is = start-both (atEnd .longest) bytes (rw (computed .queued) at (atEnd .sent)) (atEnd .most bytes covers)
+  longest-is : atEnd .delivery .longest ≡ bytes
+  longest-is = start-both (atEnd .delivery .longest) bytes (rw (computed .queued) at (atEnd .delivery .sent)) (atEnd .delivery .most bytes covers)
 
   stops-at-hole : holed .receiver .delivered ≡ []
   unfolding member
   stops-at-hole =
-      let all : holed .receiver .delivered ≡ atHole .longest = atHole .toEmpty empties-hole in
-      let c : Covered s holed (atHole .longest) = atHole .covered in
-      all ∙ covers-none holed (atHole .longest) (c .start .rest) (c .payloads) (rw (computed .behind)) (c .accepted) (c .start .whole)
+      let all : holed .receiver .delivered ≡ atHole .delivery .longest = atHole .delivery .toEmpty empties-hole in
+      let c : Covered s holed (atHole .delivery .longest) = atHole .delivery .covered in
+      all ∙ covers-none holed (atHole .delivery .longest) (c .start .rest) (c .payloads) (rw (computed .behind)) (c .accepted) (c .start .whole)
 
   wrote-A : (parser : Parser) → ReadsBack parser written-A (packetA ∷ []) (9 ∷ 9 ∷ [])
   wrote-A parser =
-      let made-in : Made-in first calls packing-A (pack 1 2 (replicate 24 0)) = record { before = _; after = _; list = refl; reached = refl } in
+      let made-in : Made-in first calls packing-A (on-sender (pack 1 2 (replicate 24 0))) = record { before = _; after = _; list = refl; reached = refl } in
       let w = atEnd .wrote packing-A 1 2 (replicate 24 0) packed-A made-in (computed .packs) in
       let one : w .packets ≡ packetA ∷ [] = sym (ap (λ (made : List Packet). made ++ w .packets) (computed .makes)) ∙ sym (w .added) ∙ computed .made in
       let written : written-A ≡ joined (w .packets) = w .written in
       let back = w .readBack (lit< tt) (lit< tt) (lit< tt) parser (9 ∷ 9 ∷ []) (lit≤ tt) in
       rw (written, one) (rw one at back)
 
-  stops : Stops (run first calls) (replicate (suc (atEnd .enough)) last)
+  stops : Stops (run first calls) (replicate (suc (atEnd .delivery .enough)) last)
   stops =
-      let many = suc (atEnd .enough) in
-      atEnd .reaches (replicate many last) (all-read many) (omega (arith, length-replicate many last))
+      let many = suc (atEnd .delivery .enough) in
+      atEnd .delivery .reaches (replicate many last) (all-read many) (omega (arith, length-replicate many last))
 
   pub says : Shows
   unfolding member
   says = record {
     stops = stops-at-hole;
-    reads = atEnd .toEmpty empties ∙ longest-is;
-    starts = rw longest-is at (atEnd .delivers);
-    front = rw (computed .counted) at (atConsume .taken);
-    accepted = atConsume .wasAccepted (s + 2) (lit≤ tt) (rw (computed .counted) (lit< tt));
-    expects = expects-is (s + 3) (atConsume .atConsume beforeConsume refl) (lit≤ tt) (rw (computed .entered) three-entered) (rw (computed .entered));
-    notPast = rw (computed .counted) at (atConsume .notPast);
+    reads = atEnd .delivery .toEmpty empties ∙ longest-is;
+    starts = rw longest-is at (atEnd .delivery .delivers);
+    front = rw (computed .counted) at (atConsume .acknowledgement .taken);
+    accepted = atConsume .acknowledgement .wasAccepted (s + 2) (lit≤ tt) (rw (computed .counted) (lit< tt));
+    expects = expects-is (s + 3) (atConsume .acknowledgement .atConsume beforeConsume refl) (lit≤ tt) (rw (computed .entered) three-entered) (rw (computed .entered));
+    notPast = rw (computed .counted) at (atConsume .acknowledgement .notPast);
     counts = λ parser. wrote-A parser .counts;
     lists = λ parser. wrote-A parser .lists;
     indexes = λ parser. wrote-A parser .indexes;
     never12 = atEnd .wellFormed;
-    further = suc (atEnd .enough);
+    further = suc (atEnd .delivery .enough);
     on = stops .on;
     call = stops .call;
     among = stops .made;

@@ -9,11 +9,11 @@ use mathlib.Core.List.{List, [], _∷_, _++_, map, flatten}
 use lib.ListN.{length, take, getElem?}
 use Rattle.lists.specs.Numbers.{largest}
 use Rattle.packet.specs.Packet.{Packet}
-use Rattle.writer.specs.Packing.{sum}
+use Rattle.writer.specs.Packing.{payloadSize, sum}
 use Rattle.ordered_bytes.specs.Receiver.{isHeld, placeAt}
 use Rattle.ordered_bytes.specs.Buffer as buffer
 use Rattle.window.specs.Window as window
-use Rattle.link.specs.Demand3.{SenderSide, ReceiverSide, WindowSide, Link, All}
+use Rattle.link.specs.Demand3.{SenderSide, Ack, ReceiverSide, WindowSide, Link, All}
 
 -- a packet's number and payload: what "same number, same payload" speaks of
 abbrev pub key : Packet → ℕ × List ℕ
@@ -24,15 +24,20 @@ unfoldable pub numberedFrom : ℕ → List (List ℕ) → List (ℕ × List ℕ)
 numberedFrom n [] = []
 numberedFrom n (p ∷ ps) = (n, p) ∷ numberedFrom (suc n) ps
 
--- the packets made are the payloads numbered from s on, none empty; with what is queued they are all bytes queued
+-- the packets made are the payloads numbered from s on, none empty or longer than a packet takes; with what is queued they are all bytes queued
 pub record SenderKeeps (s : ℕ) (payloads : List (List ℕ)) (d : SenderSide) : Type 0 where
   pub made : map key (d .made) ≡ numberedFrom s payloads
   pub filled : All (λ p. 0 < length p) payloads
+  pub small : All (λ p. length p ≤ payloadSize) payloads
   pub stream : flatten payloads ++ d .queue .bytes ≡ d .queued
   pub addsUp : sum (d .queue .lengths) ≡ length (d .queue .bytes)
   pub unclosed : d .closing ≡ false → d .next ≡ s + length payloads
   pub above : s + length payloads ≤ d .next
   pub fits : d .next ≤ largest
+
+-- an ack of packets from s on, all below f
+abbrev pub Below : ℕ → ℕ → Ack → Type 0
+Below s f a = (s ≤ a .base) × (a .base + a .count ≤ f)
 
 -- k packets have left their slots: their bytes were delivered or are carried over, and what is held agrees with what was made
 pub record ReceiverKeeps (s : ℕ) (payloads : List (List ℕ)) (k : ℕ) (d : ReceiverSide) : Type 0 where
@@ -44,7 +49,7 @@ pub record ReceiverKeeps (s : ℕ) (payloads : List (List ℕ)) (k : ℕ) (d : R
   pub below : (i : ℕ) → i < k → window.member (s + i) (d .accepted) ≡ true
   pub marks : (i : ℕ) → isHeld (placeAt (buffer.view (d .buffer)) i) ≡ window.member (s + k + i) (d .accepted)
   pub agrees : (i : ℕ) (p : List ℕ) → placeAt (buffer.view (d .buffer)) i ≡ some p → getElem? payloads (k + i) ≡ some p
-  pub acks : All (λ a. (s ≤ a .base) × (a .base + a .count ≤ s + k)) (d .acks)
+  pub acks : All (Below s (s + k)) (d .acks)
 
 -- from the number expected on, the cells hold what has entered; below it all from s on has; nothing at or above f, the first number not taken, has
 pub record WindowKeeps (s f : ℕ) (d : WindowSide) : Type 0 where

@@ -27,14 +27,17 @@ use Rattle.lists.proofs.Order.{either}
 use Rattle.ordered_bytes.proofs.View as buffer
 use Rattle.ordered_bytes.proofs.View.{view-fresh, length-held}
 use Rattle.ordered_bytes.proofs.Walk.{walk-full, consumed-part, consumed-whole}
-use Rattle.ordered_bytes.proofs.Outcome.{Creating, makes, create-ways, Acceptable, Accepting, malformed, refused, stores, accept-ways, Consuming, short, reads, consume-ways, ConsumingBytes, empty, consume-bytes-ways}
+use Rattle.ordered_bytes.proofs.Outcome.{Creating, makes, create-ways, Acceptable, Accepting, malformed, refused, stores, accept-ways, Consuming, short, reads as takes-bytes, consume-ways, ConsumingBytes, empty, consume-bytes-ways}
 use Rattle.ordered_bytes.proofs.Kept.{create-kept, accept-kept, consume-kept, consume-bytes-kept}
 use Rattle.ordered_bytes.proofs.Reading.{accept-stores, Takes, Gives, Dry, Empties, consume-gives, consume-empty, consume-dry, consume-refused, consume-bytes-gives, consume-bytes-refused, consume-bytes-dry, weight, consume-lowers, consume-bytes-lowers}
 use Rattle.window.specs.Window.{member}
 use Rattle.receive.proofs.Twelve.{accept-never}
-use Rattle.link.specs.Demand3.{ReceiverSide, Ack, Link, Call, read, read-pieces, fresh, acceptedOne, acceptedAll, ackOf, gave, gaveNothing, readBy, readPiecesBy, step, run, In, All, Reads, acceptRefusals, refusals, Stops}
-use Rattle.link.proofs.All.{all-map, all-drop}
-use Rattle.link.proofs.Invariant.{ReceiverKeeps}
+use Rattle.link.specs.Demand3.{ReceiverSide, ReceiverCall, Parser, from-bytes, from-bytes-into, parsing, arrive, read, read-pieces, peek, Ack, Link, Memory, Call, on-receiver, Called, fresh}
+use Rattle.link.specs.Demand3.{withBuffer, withAccepted, withDelivered, withAcks, withCounted, acceptedOne, acceptedAll, acceptRefusals, ackOf, gave, readBy, callReceiver}
+use Rattle.link.specs.Demand3.{indexedOn, refusals, step, run, In, All, MadeEarlier, FairReceiver, Reads, reads, reads-pieces, Stops}
+use Rattle.link.proofs.All.{only, all-map, all-drop, all-append, all-among}
+use Rattle.link.proofs.Parsing.{parse-well}
+use Rattle.link.proofs.Invariant.{Below, ReceiverKeeps}
 
 -- ---- lists
 
@@ -98,7 +101,7 @@ module _ (b : Buffer) (well : wellFormed b ≡ true) where
       by : Consuming b len out → Ends (consuming b len out .said)
       by (malformed m e) = absurd (true≢false (sym well ∙ m))
       by (short g s e) = rw e (ten refl)
-      by (reads g s e) = rw e (of (consumed (view b) len .empty) _)
+      by (takes-bytes g s e) = rw e (of (consumed (view b) len .empty) _)
 
   read-pieces-ends : (limit : ℕ) (out list : List ℕ) → Ends (consumingBytes b limit out list .said)
   read-pieces-ends limit out list = by (consume-bytes-ways b limit out list)
@@ -107,25 +110,27 @@ module _ (b : Buffer) (well : wellFormed b ≡ true) where
       by (malformed m e) = absurd (true≢false (sym well ∙ m))
       by (short g s e) = rw e (ten refl)
       by (empty g s e) = rw e (eight refl)
-      by (reads g room cells any e) = rw e (values _ refl)
+      by (takes-bytes g room cells any e) = rw e (values _ refl)
 
 -- ---- a fresh link, and more payloads made
 
 -- nothing is held, carried over or accepted, whatever is made
-pub receiver-begins : (s w : ℕ) (o : OrderedBytes) (marks : List Bool) (lengths store cells : List ℕ) (made : List (List ℕ))
-    → creating w s marks lengths store .said ≡ answers o → ReceiverKeeps s made 0 (fresh s w o marks lengths store cells .receiver)
+pub receiver-begins : (s w : ℕ) (o : OrderedBytes) (m : Memory) (made : List (List ℕ))
+    → creating w s (m .marks) (m .lengths) (m .store) .said ≡ answers o → ReceiverKeeps s made 0 (fresh s w o m .receiver)
 unfolding member All flatten
-receiver-begins s w o marks lengths store cells made said = by (create-ways w s marks lengths store)
+receiver-begins s w o m made said = by (create-ways w s (m .marks) (m .lengths) (m .store))
   where
-    by : Creating w s marks lengths store → ReceiverKeeps s made 0 (fresh s w o marks lengths store cells .receiver)
-    by (malformed m e) = absurd (let z : _≡_ {A = ℕ} 0 1 = cc in omega arith)
+    by : Creating w s (m .marks) (m .lengths) (m .store) → ReceiverKeeps s made 0 (fresh s w o m .receiver)
+    by (malformed bad e) = absurd (let z : _≡_ {A = ℕ} 0 1 = cc in omega arith)
     by (makes h e) =
-        let b = fresh s w o marks lengths store cells .receiver .buffer in
-        let state : o ≡ buffer.fresh w s marks lengths store .state = cc in
-        let same : view b ≡ record { front = s; width = w; held = replicate (length marks) none; carry = [] } = rw (state, e) (view-fresh w s marks lengths store) in
-        let free : (i : ℕ) → placeAt (view b) i ≡ none = λ i. rw same (getD-all {A = Option (List ℕ)} none (length marks) i) in
+        let b = fresh s w o m .receiver .buffer in
+        let slots = length (m .marks) in
+        let state : o ≡ buffer.fresh w s (m .marks) (m .lengths) (m .store) .state = cc in
+        let same : view b ≡ record { front = s; width = w; held = replicate slots none; carry = [] } =
+        rw (state, e) (view-fresh w s (m .marks) (m .lengths) (m .store)) in
+        let free : (i : ℕ) → placeAt (view b) i ≡ none = λ i. rw same (getD-all {A = Option (List ℕ)} none slots i) in
         record {
-          good = create-kept w s marks lengths store said;
+          good = create-kept w s (m .marks) (m .lengths) (m .store) said;
           front = rw (state, add-zero);
           within = zero-le;
           counts = refl;
@@ -187,7 +192,7 @@ front-after after same = ap (λ (r : Receiver). r .front) same
 module _ {s : ℕ} {made : List (List ℕ)} {k : ℕ} where
   stored-keeps : {d : ReceiverSide} {after : Buffer} {n : ℕ} {payload : List ℕ} → getElem? made (n - s) ≡ some payload → ReceiverKeeps s made k d
       → Acceptable (d .buffer) n payload → view after ≡ accepted (view (d .buffer)) n payload → wellFormed after ≡ true
-      → ReceiverKeeps s made k (record { buffer = after; accepted = n ∷ d .accepted; delivered = d .delivered; acks = d .acks; counted = d .counted })
+      → ReceiverKeeps s made k (withBuffer after (withAccepted (n ∷ d .accepted) d))
   unfolding member
   stored-keeps {d} {after} {n} {payload} carries keeps a same well =
       let held = view (d .buffer) .held in
@@ -207,7 +212,7 @@ module _ {s : ℕ} {made : List (List ℕ)} {k : ℕ} where
         acks = keeps .acks;
       }
 
-  pub accept-keeps : {d : ReceiverSide} (p : Packet) → Numbered s made p → ReceiverKeeps s made k d → ReceiverKeeps s made k (acceptedOne p d)
+  accept-keeps : {d : ReceiverSide} (p : Packet) → Numbered s made p → ReceiverKeeps s made k d → ReceiverKeeps s made k (acceptedOne p d)
   accept-keeps {d} p numbered keeps = by (accept-ways (d .buffer) (p .header .«packet_number») (p .payload))
     where
       by : Accepting (d .buffer) (p .header .«packet_number») (p .payload) → ReceiverKeeps s made k (acceptedOne p d)
@@ -219,18 +224,18 @@ module _ {s : ℕ} {made : List (List ℕ)} {k : ℕ} where
           rw said
           (stored-keeps (numbered .1) keeps a (accept-stores (d .buffer) n (p .payload) said .1) (accept-kept (d .buffer) n (p .payload) (numbered .2) (keeps .good)))
 
-  pub accept-all-keeps : (packets : List Packet) {d : ReceiverSide} → All (Numbered s made) packets → ReceiverKeeps s made k d → ReceiverKeeps s made k (acceptedAll packets d)
+  accept-all-keeps : (packets : List Packet) {d : ReceiverSide} → All (Numbered s made) packets → ReceiverKeeps s made k d → ReceiverKeeps s made k (acceptedAll packets d)
   unfolding All acceptedAll
   accept-all-keeps [] all keeps = keeps
   accept-all-keeps (p ∷ ps) all keeps = accept-all-keeps ps (all .1) (accept-keeps p (all .0) keeps)
 
-  pub accept-all-well : (packets : List Packet) {d : ReceiverSide} → All (Numbered s made) packets → ReceiverKeeps s made k d → In 12 (acceptRefusals packets d) → ⊥
+  accept-all-well : (packets : List Packet) {d : ReceiverSide} → All (Numbered s made) packets → ReceiverKeeps s made k d → In 12 (acceptRefusals packets d) → ⊥
   unfolding All In acceptRefusals
   accept-all-well [] all keeps never = never
   accept-all-well (p ∷ ps) {d} all keeps (inl e) = accept-never (d .buffer) (p .header .«packet_number») (p .payload) (keeps .good) (sym e)
   accept-all-well (p ∷ ps) all keeps (inr later) = accept-all-well ps (all .1) (accept-keeps p (all .0) keeps) later
 
-  pub peek-well : {d : ReceiverSide} → ReceiverKeeps s made k d → refusalIn (peeking (d .buffer)) ≡ 12 → ⊥
+  peek-well : {d : ReceiverSide} → ReceiverKeeps s made k d → refusalIn (peeking (d .buffer)) ≡ 12 → ⊥
   unfolding peeking
   peek-well {d} keeps = rw (keeps .good) (by (available (view (d .buffer))))
     where
@@ -246,26 +251,17 @@ pub record Later (s : ℕ) (made : List (List ℕ)) (k : ℕ) (d : ReceiverSide)
   pub up : k ≤ gone
   pub keeps : ReceiverKeeps s made gone d
 
--- the receiver's side after each read, as `step` builds it
-abbrev pub afterRead : ℕ → List ℕ → ReceiverSide → ReceiverSide
-afterRead len out d = let c = consuming (d .buffer) len out in readBy (c .said) (c .buffer) (c .out) d
-
-abbrev pub afterPieces : ℕ → List ℕ → List ℕ → ReceiverSide → ReceiverSide
-afterPieces limit out list d = let c = consumingBytes (d .buffer) limit out list in readPiecesBy (c .said) (c .buffer) (c .out) d
-
--- an ack of packets from s on, all below f
-abbrev pub Below : ℕ → ℕ → Ack → Type 0
-Below s f a = (s ≤ a .base) × (a .base + a .count ≤ f)
-
 -- as the front moves on by c
 acks-stay : (s k c : ℕ) (acks : List Ack) → All (Below s (s + k)) acks → All (Below s (s + (k + c))) acks
 acks-stay s k c acks all = all-map (λ a h. (h .0, omega (arith, h .1))) acks all
 
 -- and beside them that of the c packets
-acks-grow : (s k c base : ℕ) (acks : List Ack) → (0 < c → base ≡ s + k) → All (Below s (s + k)) acks → All (Below s (s + (k + c))) (ackOf base c ++ acks)
+acks-grow : (s k c base : ℕ) (acks : List Ack) → (0 < c → base ≡ s + k) → All (Below s (s + k)) acks → All (Below s (s + (k + c))) (acks ++ ackOf base c)
 unfolding All
-acks-grow s k zero base acks first all = acks-stay s k 0 acks all
-acks-grow s k (suc c) base acks first all = let here = first (suc-le-suc zero-le) in ((omega arith, omega arith), acks-stay s k (suc c) acks all)
+acks-grow s k zero base acks first all = rw append-nil (acks-stay s k 0 acks all)
+acks-grow s k (suc c) base acks first all =
+    let here = first (suc-le-suc zero-le) in
+    all-append (Below s (s + (k + suc c))) acks (ackOf base (suc c)) (acks-stay s k (suc c) acks all) ((omega arith, omega arith), tt)
 
 -- a read of length 0 takes no packet
 idle-front : (b : Buffer) (out : List ℕ) → consuming b 0 out .buffer .state .«front_number» ≡ b .state .«front_number»
@@ -280,7 +276,7 @@ idle-front b out = by (consume-ways b 0 out)
     by : Consuming b 0 out → consuming b 0 out .buffer .state .«front_number» ≡ b .state .«front_number»
     by (malformed m e) = rw e
     by (short g s e) = rw e
-    by (reads g s e) = rw (e, none-taken (view b), add-zero)
+    by (takes-bytes g s e) = rw (e, none-taken (view b), add-zero)
 
 module _ {s : ℕ} {made : List (List ℕ)} {k : ℕ} {d : ReceiverSide} (keeps : ReceiverKeeps s made k d) where
   -- the c packets taken are the next ones made
@@ -290,9 +286,9 @@ module _ {s : ℕ} {made : List (List ℕ)} {k : ℕ} {d : ReceiverSide} (keeps 
       front-made c (view (d .buffer) .held) (drop k made) (λ i p held. lookup-drop k made i ∙ keeps .agrees i p held) (t .were)
 
   -- c packets leave their slots, empty ones too, and what is counted and acked has followed
-  pub takes-keeps : {c : ℕ} {bytes : List ℕ} {after : Buffer} (acks : List Ack) (counted : ℕ) → Takes (d .buffer) c bytes after → wellFormed after ≡ true
+  takes-keeps : {c : ℕ} {bytes : List ℕ} {after : Buffer} (acks : List Ack) (counted : ℕ) → Takes (d .buffer) c bytes after → wellFormed after ≡ true
       → All (Below s (s + (k + c))) acks → counted ≡ k + c
-      → ReceiverKeeps s made (k + c) (record { buffer = after; accepted = d .accepted; delivered = d .delivered ++ bytes; acks = acks; counted = counted })
+      → ReceiverKeeps s made (k + c) (withBuffer after (withDelivered (d .delivered ++ bytes) (withAcks acks (withCounted counted d))))
   takes-keeps {c} {bytes} {after} acks counted t well below counts =
       let b = d .buffer in
       let next = taken-made t in
@@ -317,7 +313,7 @@ module _ {s : ℕ} {made : List (List ℕ)} {k : ℕ} {d : ReceiverSide} (keeps 
     gone = k + v .0;
     up = omega arith;
     keeps =
-        takes-keeps (ackOf (v .1) (v .0) ++ d .acks) (d .counted + v .0) (g .takes) well
+        takes-keeps (d .acks ++ ackOf (v .1) (v .0)) (d .counted + v .0) (g .takes) well
         (acks-grow s k (v .0) (v .1) (d .acks) (λ taken. g .first taken ∙ front-of (d .buffer) ∙ keeps .front) (keeps .acks)) (rw (keeps .counts));
   }
 
@@ -329,7 +325,7 @@ module _ {s : ℕ} {made : List (List ℕ)} {k : ℕ} {d : ReceiverSide} (keeps 
       let nil : view b .carry ++ flatten (take c (drop k made)) ≡ [] = rw (next .0) at (sym (t .flow) ∙ dry) in
       omega (arith, ap length nil, length-append (view b .carry) (flatten (take c (drop k made))), filled-flatten c (drop k made) (all-drop (λ p. 0 < length p) k made filled) (next .1))
 
-  empties-keeps : {after : Buffer} (e : Empties (d .buffer) after) → e .packets ≡ 0 → wellFormed after ≡ true → Later s made k (gaveNothing after d)
+  empties-keeps : {after : Buffer} (e : Empties (d .buffer) after) → e .packets ≡ 0 → wellFormed after ≡ true → Later s made k (withBuffer after d)
   empties-keeps {after} e z well = record {
     gone = k + e .packets;
     up = omega arith;
@@ -349,42 +345,64 @@ module _ {s : ℕ} {made : List (List ℕ)} {k : ℕ} {d : ReceiverSide} (keeps 
   stay : Later s made k d
   stay = record { gone = k; up = le-refl k; keeps = keeps }
 
-  pub read-keeps : All (λ p. 0 < length p) made → (len : ℕ) (out : List ℕ) → Later s made k (afterRead len out d)
+  read-keeps : All (λ p. 0 < length p) made → (len : ℕ) (out : List ℕ) → Later s made k (callReceiver d (read len out) .left)
   read-keeps filled len out = by (read-ends (d .buffer) (keeps .good) len out)
     where
       well : wellFormed (consuming (d .buffer) len out .buffer) ≡ true
       well = consume-kept (d .buffer) len out (keeps .good)
 
-      by : Ends (consuming (d .buffer) len out .said) → Later s made k (afterRead len out d)
+      by : Ends (consuming (d .buffer) len out .said) → Later s made k (callReceiver d (read len out) .left)
       by (values v e) = rw e (gives-keeps (consume-gives (d .buffer) len out e) well)
       by (eight e) = rw e (empties-keeps (consume-empty (d .buffer) len out e .0) (eight-takes filled len out e) well)
       by (ten e) = rw (e, consume-refused (d .buffer) len out e (λ q. omega arith) .0) stay
 
-  pub read-pieces-keeps : (limit : ℕ) (out list : List ℕ) → Later s made k (afterPieces limit out list d)
+  read-pieces-keeps : (limit : ℕ) (out list : List ℕ) → Later s made k (callReceiver d (read-pieces limit out list) .left)
   read-pieces-keeps limit out list = by (read-pieces-ends (d .buffer) (keeps .good) limit out list)
     where
-      by : Ends (consumingBytes (d .buffer) limit out list .said) → Later s made k (afterPieces limit out list d)
+      by : Ends (consumingBytes (d .buffer) limit out list .said) → Later s made k (callReceiver d (read-pieces limit out list) .left)
       by (values v e) = rw e (gives-keeps (consume-bytes-gives (d .buffer) limit out list e) (consume-bytes-kept (d .buffer) limit out list (keeps .good)))
       by (eight e) = rw (e, consume-bytes-refused (d .buffer) limit out list e .0) stay
       by (ten e) = rw (e, consume-bytes-refused (d .buffer) limit out list e .0) stay
 
-  pub read-well : (len : ℕ) (out : List ℕ) → refusalIn (consuming (d .buffer) len out .said) ≡ 12 → ⊥
-  read-well len out = ends-well (read-ends (d .buffer) (keeps .good) len out)
+-- ---- every call
 
-  pub read-pieces-well : (limit : ℕ) (out list : List ℕ) → refusalIn (consumingBytes (d .buffer) limit out list .said) ≡ 12 → ⊥
-  read-pieces-well limit out list = ends-well (read-pieces-ends (d .buffer) (keeps .good) limit out list)
+pub record ReceiverDoes (s : ℕ) (made : List (List ℕ)) (k : ℕ) (c : Called ReceiverSide) : Type 0 where
+  pub later : Later s made k (c .left)
+  pub never12 : In 12 (c .refusals) → ⊥
 
-  -- "To empty": 8, asked for a byte or a piece at least, leaves nothing to give
-  pub read-dry : (len : ℕ) (out : List ℕ) → 0 < len → refusalIn (consuming (d .buffer) len out .said) ≡ 8 → Dry (afterRead len out d .buffer)
-  read-dry len out asked h =
-      let said = ends-eight (read-ends (d .buffer) (keeps .good) len out) h in
-      rw said (consume-dry (d .buffer) len out said asked)
+never-parsed : (parser : Parser) (datagram index : List ℕ) → refusalIn (parsing parser datagram index .0) ≡ 12 → ⊥
+never-parsed from-bytes datagram index = parse-well datagram _
+never-parsed from-bytes-into datagram index = parse-well datagram _
 
-  pub read-pieces-dry : (limit : ℕ) (out list : List ℕ) → 0 < limit → refusalIn (consumingBytes (d .buffer) limit out list .said) ≡ 8
-      → Dry (afterPieces limit out list d .buffer)
-  read-pieces-dry limit out list asked h =
-      let said = ends-eight (read-pieces-ends (d .buffer) (keeps .good) limit out list) h in
-      rw said (consume-bytes-dry (d .buffer) limit out list said asked)
+module _ {s : ℕ} {made : List (List ℕ)} {k : ℕ} (l : Link) (keeps : ReceiverKeeps s made k (l .receiver)) where
+  -- where none made is empty, and a packet that was made earlier carries the payload of its number
+  pub receiver-does : (c : ReceiverCall) → All (λ p. 0 < length p) made → ((p : Packet) → MadeEarlier l p → Numbered s made p) → FairReceiver l c
+      → ReceiverDoes s made k (callReceiver (l .receiver) c)
+  unfolding In
+  receiver-does (arrive parser datagram index packets) filled numbered fair =
+      let arrived = all-map numbered packets (all-among (MadeEarlier l) (indexedOn l parser datagram index) packets (fair .0) (fair .1)) in
+      record { later = stay (accept-all-keeps packets arrived keeps); never12 = λ h. never h arrived }
+    where
+      never : In 12 (callReceiver (l .receiver) (arrive parser datagram index packets) .refusals) → All (Numbered s made) packets → ⊥
+      never (inl e) arrived = never-parsed parser datagram index (sym e)
+      never (inr h) arrived = accept-all-well packets arrived keeps h
+  receiver-does (read len out) filled numbered fair =
+      record { later = read-keeps keeps filled len out; never12 = λ h. ends-well (read-ends (l .receiver .buffer) (keeps .good) len out) (sym (only h)) }
+  receiver-does (read-pieces limit out list) filled numbered fair =
+      let ends = read-pieces-ends (l .receiver .buffer) (keeps .good) limit out list in
+      record { later = read-pieces-keeps keeps limit out list; never12 = λ h. ends-well ends (sym (only h)) }
+  receiver-does peek filled numbered fair = record { later = stay keeps; never12 = λ h. peek-well keeps (sym (only h)) }
+
+-- ---- reading to empty
+
+-- "To empty": 8, asked for a byte or a piece at least, leaves nothing to give
+pub emptied : (l : Link) (c : Call) → wellFormed (l .receiver .buffer) ≡ true → Reads c → In 8 (refusals l c) → Dry (step l c .receiver .buffer)
+emptied l c well (reads len out asked) h =
+    let said = ends-eight (read-ends (l .receiver .buffer) well len out) (sym (only h)) in
+    rw said (consume-dry (l .receiver .buffer) len out said asked)
+emptied l c well (reads-pieces limit out list asked) h =
+    let said = ends-eight (read-pieces-ends (l .receiver .buffer) well limit out list) (sym (only h)) in
+    rw said (consume-bytes-dry (l .receiver .buffer) limit out list said asked)
 
 -- ---- reads come to an 8, unless refused with 10
 
@@ -395,15 +413,15 @@ data Settles (l : Link) (c : Call) : Type 0 where
 
 settles : (l : Link) (c : Call) → wellFormed (l .receiver .buffer) ≡ true → Reads c → Settles l c
 unfolding In
-settles l (read len out) well asked = by (read-ends (l .receiver .buffer) well len out)
+settles l c well (reads len out asked) = by (read-ends (l .receiver .buffer) well len out)
   where
-    by : Ends (consuming (l .receiver .buffer) len out .said) → Settles l (read len out)
+    by : Ends (consuming (l .receiver .buffer) len out .said) → Settles l (on-receiver (read len out))
     by (values v e) = lowers (rw e (consume-kept (l .receiver .buffer) len out well)) (rw e (consume-lowers (l .receiver .buffer) len out e (omega (arith, asked))))
     by (eight e) = stops (inl (rw e (inl refl)))
     by (ten e) = stops (inr (rw e (inl refl)))
-settles l (read-pieces limit out list) well asked = by (read-pieces-ends (l .receiver .buffer) well limit out list)
+settles l c well (reads-pieces limit out list asked) = by (read-pieces-ends (l .receiver .buffer) well limit out list)
   where
-    by : Ends (consumingBytes (l .receiver .buffer) limit out list .said) → Settles l (read-pieces limit out list)
+    by : Ends (consumingBytes (l .receiver .buffer) limit out list .said) → Settles l (on-receiver (read-pieces limit out list))
     by (values v e) = lowers (rw e (consume-bytes-kept (l .receiver .buffer) limit out list well)) (rw e (consume-bytes-lowers (l .receiver .buffer) limit out list e))
     by (eight e) = stops (inl (rw e (inl refl)))
     by (ten e) = stops (inr (rw e (inl refl)))

@@ -4,8 +4,8 @@
 use Prim.Native.Nat.{ℕ, _+_}
 use mathlib.Core.Path.{_≡_, refl}
 use mathlib.Core.Logic.{inl, inr}
-use mathlib.Core.Bool.{Bool, true, false, false≢true}
-use mathlib.Core.List.{List, [], _∷_, _++_, flatten}
+use mathlib.Core.Bool.{true, false, false≢true}
+use mathlib.Core.List.{List, [], _∷_, _++_, map, flatten}
 use lib.Dec.{lit≤, lit<}
 use lib.ListN.{take, replicate}
 use Rattle.refusal.specs.Said.{Said, answers}
@@ -19,8 +19,8 @@ use Rattle.ordered_bytes.specs.Buffer as buffer
 use Rattle.ordered_bytes.specs.Calls.{creating, accepting, peeking, consuming, consumingBytes}
 use Rattle.ordered_bytes.specs.declared.OrderedBytes.{OrderedBytes}
 use Rattle.window.specs.Window as window
-use Rattle.link.specs.Demand3.{Link, Call, enqueue, pack, arrive, read, read-pieces, peek, insert, insert-range, consume-window, reserve}
-use Rattle.link.specs.Demand3.{from-bytes, from-bytes-into, fresh, step, run, Fairly, Premises, All, In, dataOf, acceptedAll, MadeEarlier, acceptRefusals, refusals, Accepted}
+use Rattle.link.specs.Demand3.{Link, Memory, Call, enqueue, pack, reserve, arrive, read, read-pieces, peek, insert, insert-range, consume-window, on-sender, on-receiver, on-window}
+use Rattle.link.specs.Demand3.{from-bytes, from-bytes-into, fresh, step, run, packingOf, Fairly, Premises, All, In, dataOf, acceptedAll, MadeEarlier, acceptRefusals, refusals, Accepted}
 use Rattle.link.proofs.Runs.{fairly-append, fairly-before}
 
 -- ---- the run
@@ -33,20 +33,11 @@ s = 4294967303
 abbrev pub state : OrderedBytes
 state = record { «slot_width» = 1500; «front_slot» = 0; «front_number» = s; «carry_len» = 0 }
 
-abbrev pub marks : List Bool
-marks = true ∷ false ∷ true ∷ []
-
-abbrev pub lengths : List ℕ
-lengths = 5 ∷ 6 ∷ 7 ∷ []
-
-abbrev pub store : List ℕ
-store = replicate 6000 0
-
-abbrev pub cells : List ℕ
-cells = 8 ∷ 8 ∷ 8 ∷ []
+abbrev pub memory : Memory
+memory = record { marks = true ∷ false ∷ true ∷ []; lengths = 5 ∷ 6 ∷ 7 ∷ []; store = replicate 6000 0; cells = 8 ∷ 8 ∷ 8 ∷ [] }
 
 abbrev pub first : Link
-first = fresh s 1500 state marks lengths store cells
+first = fresh s 1500 state memory
 
 -- the three packets that are made, and all bytes queued
 abbrev pub packetA : Packet
@@ -63,7 +54,7 @@ bytes = 1 ∷ 2 ∷ 3 ∷ 4 ∷ 5 ∷ 6 ∷ 7 ∷ 8 ∷ []
 
 -- the first packing has no room
 abbrev pub sending : List Call
-sending =
+sending = map on-sender (
     enqueue ((1 ∷ 2 ∷ []) ∷ [] ∷ (3 ∷ 4 ∷ []) ∷ [])
     ∷ pack 1 2 (replicate 23 0)
     ∷ pack 1 2 (replicate 24 0)
@@ -72,31 +63,33 @@ sending =
     ∷ enqueue ((8 ∷ []) ∷ [])
     ∷ pack 1 2 (replicate 21 0)
     ∷ []
+    )
 
 -- the front packet is missing, and there is nothing to read
 abbrev pub early : List Call
-early = arrive from-bytes-into (joined (packetB ∷ packetC ∷ [])) (replicate 4 9) (packetC ∷ packetB ∷ []) ∷ peek ∷ []
+early = map on-receiver (arrive from-bytes-into (joined (packetB ∷ packetC ∷ [])) (replicate 4 9) (packetC ∷ packetB ∷ []) ∷ peek ∷ [])
 
 abbrev pub readAtHole : Call
-readAtHole = read 5 (replicate 5 0)
+readAtHole = on-receiver (read 5 (replicate 5 0))
 
 abbrev pub arriving : List Call
-arriving = early ++ (readAtHole ∷ arrive from-bytes (joined (packetA ∷ [])) (9 ∷ 9 ∷ []) (packetA ∷ []) ∷ peek ∷ [])
+arriving = early ++ (readAtHole ∷ map on-receiver (arrive from-bytes (joined (packetA ∷ [])) (9 ∷ 9 ∷ []) (packetA ∷ []) ∷ peek ∷ []))
 
 -- five bytes, a read with too short a buffer, and the rest: a carry-over and a packet
 abbrev pub reading : List Call
-reading = read 5 (replicate 8 0) ∷ read 9 (replicate 8 0) ∷ read-pieces 2 (replicate 8 0) (replicate 8 0) ∷ []
+reading = map on-receiver (read 5 (replicate 8 0) ∷ read 9 (replicate 8 0) ∷ read-pieces 2 (replicate 8 0) (replicate 8 0) ∷ [])
 
 -- the number of the single insert has entered with the range
 abbrev pub entering : List Call
-entering = insert-range s 2 ∷ insert (s + 1) ∷ insert (s + 2) ∷ []
+entering = map on-window (insert-range s 2 ∷ insert (s + 1) ∷ insert (s + 2) ∷ [])
 
 -- a FIN's number, a packing that has nothing to pack, and a packet that comes again
 abbrev pub closing : List Call
-closing = reserve ∷ pack 1 2 [] ∷ arrive from-bytes-into (joined (packetA ∷ [])) (9 ∷ 9 ∷ []) (packetA ∷ []) ∷ []
+closing =
+    map on-sender (reserve ∷ pack 1 2 [] ∷ []) ++ (on-receiver (arrive from-bytes-into (joined (packetA ∷ [])) (9 ∷ 9 ∷ []) (packetA ∷ [])) ∷ [])
 
 abbrev pub last : Call
-last = read 1 (replicate 8 0)
+last = on-receiver (read 1 (replicate 8 0))
 
 -- the list that ends by reading at the hole, the one that ends by consuming the window, and the one that goes on and ends by reading to empty
 abbrev pub beforeHole : List Call
@@ -109,7 +102,7 @@ abbrev pub beforeConsume : List Call
 beforeConsume = sending ++ (arriving ++ (reading ++ entering))
 
 abbrev pub toConsume : List Call
-toConsume = beforeConsume ++ (consume-window ∷ [])
+toConsume = beforeConsume ++ (on-window consume-window ∷ [])
 
 abbrev pub beforeLast : List Call
 beforeLast = toConsume ++ closing
@@ -135,13 +128,13 @@ consumed = run first toConsume
 
 -- where the second packing, of packet A, is made, and what it answers
 abbrev pub packing-A : Link
-packing-A = run first (enqueue ((1 ∷ 2 ∷ []) ∷ [] ∷ (3 ∷ 4 ∷ []) ∷ []) ∷ pack 1 2 (replicate 23 0) ∷ [])
+packing-A = run first (map on-sender (enqueue ((1 ∷ 2 ∷ []) ∷ [] ∷ (3 ∷ 4 ∷ []) ∷ []) ∷ pack 1 2 (replicate 23 0) ∷ []))
 
 abbrev pub packed-A : DataPacked
 packed-A = record { bytes = 4; packets = 1; «next_packet_num» = s + 1; «entries_removed» = 3; «bytes_cut» = 0 }
 
 abbrev pub output-A : Said DataPacked × List ℕ
-output-A = packing byteLimit (packing-A .sender .queue) (packing-A .sender .next) 1 2 (replicate 24 0)
+output-A = packingOf (packing-A .sender) 1 2 (replicate 24 0)
 
 -- .. and the bytes that it wrote
 abbrev pub written-A : List ℕ
@@ -161,13 +154,13 @@ trace l (c ∷ cs) = refusals l c ∷ trace (step l c) cs
 -- each part keeps the premises, and both reads that took packets give an ack; part by part, what each call is refused with; the read at the hole says 8, with
 -- two packets accepted behind it; all eight bytes are queued and covered; three packets are counted; the last read says 8; packet A is the first made
 pub record Computed : Type 0 where
-  pub new : creating 1500 s marks lengths store .said ≡ answers state
+  pub new : creating 1500 s (memory .marks) (memory .lengths) (memory .store) .said ≡ answers state
   pub sends : Fairly first sending
   pub arrives : Fairly sent arriving
   pub reads : Fairly arrived reading
-  pub acks : emptied .receiver .acks ≡ record { base = s + 2; count = 1 } ∷ record { base = s; count = 2 } ∷ []
+  pub acks : emptied .receiver .acks ≡ record { base = s; count = 2 } ∷ record { base = s + 2; count = 1 } ∷ []
   pub enters : Fairly emptied entering
-  pub consumes : Fairly (run first beforeConsume) (consume-window ∷ [])
+  pub consumes : Fairly (run first beforeConsume) (on-window consume-window ∷ [])
   pub closes : Fairly consumed closing
   pub ends : Fairly (run first beforeLast) (last ∷ [])
   pub refused : trace first calls
@@ -187,7 +180,7 @@ pub record Computed : Type 0 where
   pub entered : consumed .acked .entered ≡ entered
   pub packs : output-A .0 ≡ answers packed-A
   pub makes : packing-A .sender .made ≡ []
-  pub made : step packing-A (pack 1 2 (replicate 24 0)) .sender .made ≡ packetA ∷ []
+  pub made : step packing-A (on-sender (pack 1 2 (replicate 24 0))) .sender .made ≡ packetA ∷ []
 
 itself : {l : Link} (p : Packet) → In p (l .sender .made) → MadeEarlier l p
 itself p made = record { original = p; made = made; number = refl; payload = refl }
@@ -210,10 +203,10 @@ computed = record {
   reads = (tt, (tt, (tt, tt)));
   acks = refl;
   enters = (
-    inr (inl refl),
+    inl refl,
     (
-      record { ack = record { base = s; count = 2 }; given = inr (inl refl); from = lit≤ tt; below = lit< tt },
-      (record { ack = record { base = s + 2; count = 1 }; given = inl refl; from = lit≤ tt; below = lit< tt }, tt),
+      record { ack = record { base = s; count = 2 }; given = inl refl; from = lit≤ tt; below = lit< tt },
+      (record { ack = record { base = s + 2; count = 1 }; given = inr (inl refl); from = lit≤ tt; below = lit< tt }, tt),
     ),
   );
   consumes = (tt, tt);
@@ -247,18 +240,18 @@ unfolding run
 fair =
     let c = computed in
     let read = fairly-append sent arriving (reading ++ entering) (c .arrives) (fairly-append arrived reading entering (c .reads) (c .enters)) in
-    let consume = fairly-append first beforeConsume (consume-window ∷ []) (fairly-append first sending (arriving ++ (reading ++ entering)) (c .sends) read) (c .consumes) in
+    let consume = fairly-append first beforeConsume (on-window consume-window ∷ []) (fairly-append first sending (arriving ++ (reading ++ entering)) (c .sends) read) (c .consumes) in
     fairly-append first beforeLast (last ∷ []) (fairly-append first toConsume closing consume (c .closes)) (c .ends)
 
-meets : (list : List Call) → Fairly first list → Premises s 1500 state marks lengths store cells list
+meets : (list : List Call) → Fairly first list → Premises s 1500 state memory list
 unfolding payloadSize
 meets list f = record { start = lit≤ tt; new = computed .new; wide = lit≤ tt; fair = f }
 
-pub meetsToHole : Premises s 1500 state marks lengths store cells toHole
+pub meetsToHole : Premises s 1500 state memory toHole
 meetsToHole = meets toHole (fairly-before first toHole _ fair)
 
-pub meetsToConsume : Premises s 1500 state marks lengths store cells toConsume
+pub meetsToConsume : Premises s 1500 state memory toConsume
 meetsToConsume = meets toConsume (fairly-before first toConsume (closing ++ (last ∷ [])) fair)
 
-pub meetsCalls : Premises s 1500 state marks lengths store cells calls
+pub meetsCalls : Premises s 1500 state memory calls
 meetsCalls = meets calls fair

@@ -1,10 +1,10 @@
--- The sender's side of demand 3: which number carries which payload, and that each of the sender's calls keeps `SenderKeeps`.
+-- The sender's side of demand 3: which number carries which payload, and that each of the sender's calls keeps `SenderKeeps` and is not refused with 12.
 -- Document 01, "From the queue to a datagram", "Closing" and "Premises of demand 3".
 -- Assumes nothing.
 use Prim.Native.Nat.{ℕ, zero, suc, _+_, _-_, _*_, _≤_, _<_}
 use mathlib.Core.Path.{_≡_, refl, sym, ap, _∙_}
 use mathlib.Core.Logic.{inl, inr}
-use mathlib.Core.Bool.{Bool, true, false}
+use mathlib.Core.Bool.{Bool, true, false, true≢false}
 use mathlib.Core.Option.{some}
 use mathlib.Core.List.{List, [], _∷_, _++_, map, map-append, append-assoc, append-nil, flatten}
 use native.Mathlib.Nat.{add-zero, add-suc, suc-add}
@@ -16,13 +16,14 @@ use Rattle.refusal.specs.Said.{Said, answers, refuses, refusalIn, checks}
 use Rattle.lists.specs.Numbers.{largest}
 use Rattle.lists.proofs.Flatten.{flatten-append}
 use Rattle.packet.specs.Packet.{Packet}
-use Rattle.writer.specs.Packing.{packing, byteLimit, bytesTaken, packetsFor, payloadsOf, numbered, removed, sum}
+use Rattle.writer.specs.Packing.{packing, payloadSize, bytesTaken, packetsFor, payloadsOf, numbered, removed, sum}
 use Rattle.writer.specs.Reserve.{reserving}
 use Rattle.writer.specs.declared.DataPacked.{DataPacked}
-use Rattle.writer.proofs.Made.{payloads-joined, count-payloads, payload-some, dequeued-adds-up}
+use Rattle.writer.proofs.Made.{payloads-joined, count-payloads, payload-some, payload-small, dequeued-adds-up}
 use Rattle.ordered_bytes.specs.declared.OrderedBytes.{OrderedBytes}
-use Rattle.link.specs.Demand3.{SenderSide, Link, fresh, enqueued, packedBy, packed, reservedBy, In, All, MadeEarlier, Made}
-use Rattle.link.proofs.All.{all-append, all-getD}
+use Rattle.link.specs.Demand3.{SenderSide, SenderCall, enqueue, pack, reserve, Link, Memory, fresh, Called, enqueued, limitOf, packingOf, packedBy, reservedBy, callSender}
+use Rattle.link.specs.Demand3.{In, All, MadeEarlier, FairSender, Made}
+use Rattle.link.proofs.All.{only, all-append, all-getD}
 use Rattle.link.proofs.Invariant.{key, numberedFrom, SenderKeeps}
 
 -- ---- which number carries which payload
@@ -99,19 +100,22 @@ unfolding sum flatten
 sum-lengths [] = refl
 sum-lengths (x ∷ xs) = omega (arith, sum-lengths xs, length-append x (flatten xs))
 
--- no payload made is empty
+-- no payload made is empty, none longer than a packet takes
 payloads-filled : (limit : ℕ) (bytes : List ℕ) → All (λ p. 0 < length p) (payloadsOf limit bytes)
 payloads-filled limit bytes =
     all-getD (λ p. 0 < length p) [] (payloadsOf limit bytes) (λ i h. payload-some limit bytes i (rw (count-payloads limit bytes) at h))
 
+payloads-small : (limit : ℕ) (bytes : List ℕ) → All (λ p. length p ≤ payloadSize) (payloadsOf limit bytes)
+payloads-small limit bytes = all-getD (λ p. length p ≤ payloadSize) [] (payloadsOf limit bytes) (λ i h. payload-small limit bytes i (rw (count-payloads limit bytes) at h))
+
 -- ---- the sender's calls
 
-pub sender-begins : (s w : ℕ) (o : OrderedBytes) (marks : List Bool) (lengths store cells : List ℕ) → s ≤ largest
-    → SenderKeeps s [] (fresh s w o marks lengths store cells .sender)
+pub sender-begins : (s w : ℕ) (o : OrderedBytes) (m : Memory) → s ≤ largest → SenderKeeps s [] (fresh s w o m .sender)
 unfolding numberedFrom All flatten sum
-sender-begins s w o marks lengths store cells h = record {
+sender-begins s w o m h = record {
   made = refl;
   filled = tt;
+  small = tt;
   stream = refl;
   addsUp = refl;
   unclosed = λ e. omega arith;
@@ -122,13 +126,13 @@ sender-begins s w o marks lengths store cells h = record {
 -- what a packing that is not refused answers
 abbrev taking : SenderSide → DataPacked
 taking d =
-    let q = bytesTaken byteLimit (length (d .queue .bytes)) in
+    let q = bytesTaken (limitOf d) (length (d .queue .bytes)) in
     record {
       bytes = q;
       packets = packetsFor q;
       «next_packet_num» = d .next + packetsFor q;
-      «entries_removed» = removed byteLimit (d .queue) .0;
-      «bytes_cut» = removed byteLimit (d .queue) .1;
+      «entries_removed» = removed (limitOf d) (d .queue) .0;
+      «bytes_cut» = removed (limitOf d) (d .queue) .1;
     }
 
 -- what packing says of a queue that adds up: all that it takes, or a refusal that is not 12
@@ -136,11 +140,10 @@ data Says (d : SenderSide) : Said DataPacked → Type 0 where
   takes : taking d .«next_packet_num» ≤ largest → Says d (answers (taking d))
   stays : (n : ℕ) → (n ≡ 12 → ⊥) → Says d (refuses n)
 
-packing-says : (src dst : ℕ) (out : List ℕ) (d : SenderSide) → sum (d .queue .lengths) ≡ length (d .queue .bytes)
-    → Says d (packing byteLimit (d .queue) (d .next) src dst out .0)
+packing-says : (src dst : ℕ) (out : List ℕ) (d : SenderSide) → sum (d .queue .lengths) ≡ length (d .queue .bytes) → Says d (packingOf d src dst out .0)
 unfolding packing
 packing-says src dst out d e =
-    let q = bytesTaken byteLimit (length (d .queue .bytes)) in
+    let q = bytesTaken (limitOf d) (length (d .queue .bytes)) in
     rw (eq-eqb (sum (d .queue .lengths)) (length (d .queue .bytes)) e) (by (ltb largest (taking d .«next_packet_num»)) (ltb (length out) (q + 20 * packetsFor q)) _ refl)
   where
     by : (exhausted short : Bool) (written : List ℕ) → ltb largest (taking d .«next_packet_num») ≡ exhausted
@@ -162,16 +165,18 @@ unfolding numbered
 length-numbered src dst n [] = refl
 length-numbered src dst n (p ∷ ps) = ap suc (length-numbered src dst (suc n) ps)
 
--- the payloads that a packing adds to those made before it
-pub record Packs (s : ℕ) (payloads : List (List ℕ)) (after : SenderSide) : Type 0 where
+-- what a call keeps, which may add payloads to those made before it
+pub record SenderDoes (s : ℕ) (payloads : List (List ℕ)) (c : Called SenderSide) : Type 0 where
   pub more : List (List ℕ)
-  pub keeps : SenderKeeps s (payloads ++ more) after
+  pub keeps : SenderKeeps s (payloads ++ more) (c .left)
+  pub never12 : In 12 (c .refusals) → ⊥
 
 module _ {s : ℕ} {payloads : List (List ℕ)} {d : SenderSide} (v : SenderKeeps s payloads d) where
-  pub enqueue-keeps : (entries : List (List ℕ)) → SenderKeeps s payloads (enqueued entries d)
+  enqueue-keeps : (entries : List (List ℕ)) → SenderKeeps s payloads (enqueued entries d)
   enqueue-keeps entries = record {
     made = v .made;
     filled = v .filled;
+    small = v .small;
     stream = sym (append-assoc (flatten payloads) (d .queue .bytes) (flatten entries)) ∙ ap (λ (r : List ℕ). r ++ flatten entries) (v .stream);
     addsUp = rw (sum-append, v .addsUp, sum-lengths) (sym (length-append (d .queue .bytes) (flatten entries)));
     unclosed = v .unclosed;
@@ -179,63 +184,66 @@ module _ {s : ℕ} {payloads : List (List ℕ)} {d : SenderSide} (v : SenderKeep
     fits = v .fits;
   }
 
-  pub pack-well : (src dst : ℕ) (out : List ℕ) → refusalIn (packing byteLimit (d .queue) (d .next) src dst out .0) ≡ 12 → ⊥
-  pack-well src dst out = by _ (packing-says src dst out d (v .addsUp))
-    where
-      by : (said : Said DataPacked) → Says d said → refusalIn said ≡ 12 → ⊥
-      by said (takes h) e = omega arith
-      by said (stays n other) e = other e
-
-  pub pack-keeps : (src dst : ℕ) (out : List ℕ) → (d .closing ≡ true → packed src dst out d .made ≡ d .made) → Packs s payloads (packed src dst out d)
-  pack-keeps src dst out fair = by _ (packing-says src dst out d (v .addsUp)) fair
+  pack-does : (src dst : ℕ) (out : List ℕ) → (d .closing ≡ true → callSender d (pack src dst out) .left .made ≡ d .made)
+      → SenderDoes s payloads (callSender d (pack src dst out))
+  pack-does src dst out fair = by _ (packing-says src dst out d (v .addsUp)) fair
     where
       bytes : List ℕ
       bytes = d .queue .bytes
 
       more : List (List ℕ)
-      more = payloadsOf byteLimit bytes
+      more = payloadsOf (limitOf d) bytes
 
       none-made : d .made ++ numbered src dst (d .next) more ≡ d .made → length more ≡ 0
       none-made e = omega (arith, length-append (d .made) (numbered src dst (d .next) more), ap length e, length-numbered src dst (d .next) more)
 
-      by : (said : Said DataPacked) → Says d said → (d .closing ≡ true → packedBy said src dst d .made ≡ d .made) → Packs s payloads (packedBy said src dst d)
-      by said (stays n other) fair = record { more = []; keeps = rw append-nil v }
+      by : (said : Said DataPacked) → Says d said → (d .closing ≡ true → packedBy said src dst d .made ≡ d .made)
+          → SenderDoes s payloads (record { refusals = refusalIn said ∷ []; left = packedBy said src dst d })
+      by said (stays n other) fair = record { more = []; keeps = rw append-nil v; never12 = λ h. other (sym (only h)) }
       by said (takes h) fair =
           let next = numbered-next (d .closing) (d .next) (s + length payloads) more (v .unclosed) (λ c. none-made (fair c)) in
           record {
             more = more;
             keeps = record {
               made = rw (map-append, v .made, keys-numbered, numberedFrom-append) (ap (λ (r : List (ℕ × List ℕ)). numberedFrom s payloads ++ r) next);
-              filled = all-append _ payloads more (v .filled) (payloads-filled byteLimit bytes);
+              filled = all-append _ payloads more (v .filled) (payloads-filled (limitOf d) bytes);
+              small = all-append _ payloads more (v .small) (payloads-small (limitOf d) bytes);
               stream = rw (flatten-append, payloads-joined, append-assoc, take-append-drop) (v .stream);
-              addsUp = dequeued-adds-up byteLimit (d .queue) (d .next) (v .addsUp);
+              addsUp = dequeued-adds-up (limitOf d) (d .queue) (d .next) (v .addsUp);
               unclosed = λ c. rw (v .unclosed c, length-append, count-payloads) (omega arith);
               above = rw (length-append, count-payloads) (omega arith);
               fits = h;
             };
+            never12 = λ z. omega (arith, only z);
           }
 
-  pub reserve-keeps : SenderKeeps s payloads (reservedBy (reserving (d .next)) d)
-  reserve-keeps = by (leb largest (d .next)) refl
+  reserve-does : SenderDoes s payloads (callSender d reserve)
+  reserve-does = by (leb largest (d .next)) refl
     where
-      by : (exhausted : Bool) → leb largest (d .next) ≡ exhausted
-          → SenderKeeps s payloads (reservedBy (checks ((exhausted, 9) ∷ []) refuses (answers (d .next, d .next + 1))) d)
-      by true t = v
+      by : (exhausted : Bool) → leb largest (d .next) ≡ exhausted →
+          let said : Said (ℕ × ℕ) = checks ((exhausted, 9) ∷ []) refuses (answers (d .next, d .next + 1)) in
+          SenderDoes s payloads (record { refusals = refusalIn said ∷ []; left = reservedBy said d })
+      by true t = record { more = []; keeps = rw append-nil v; never12 = λ h. omega (arith, only h) }
       by false t =
           let room = leb-false largest (d .next) t in
           record {
-            made = v .made;
-            filled = v .filled;
-            stream = v .stream;
-            addsUp = v .addsUp;
-            unclosed = λ c. absurd (let z : _≡_ {A = ℕ} 0 1 = cc in omega arith);
-            above = omega arith;
-            fits = omega arith;
+            more = [];
+            keeps = rw append-nil record {
+              made = v .made;
+              filled = v .filled;
+              small = v .small;
+              stream = v .stream;
+              addsUp = v .addsUp;
+              unclosed = λ c. absurd (true≢false c);
+              above = omega (arith, v .above);
+              fits = omega arith;
+            };
+            never12 = λ h. omega (arith, only h);
           }
 
-pub reserve-well : (next : ℕ) → refusalIn (reserving next) ≡ 12 → ⊥
-reserve-well next = by (leb largest next)
-  where
-    by : (exhausted : Bool) → refusalIn {A = ℕ × ℕ} (checks ((exhausted, 9) ∷ []) refuses (answers (next, next + 1))) ≡ 12 → ⊥
-    by true e = omega arith
-    by false e = omega arith
+pub sender-does : {s : ℕ} {payloads : List (List ℕ)} (l : Link) (c : SenderCall) → SenderKeeps s payloads (l .sender) → FairSender l c
+    → SenderDoes s payloads (callSender (l .sender) c)
+unfolding In
+sender-does l (enqueue entries) v fair = record { more = []; keeps = rw append-nil (enqueue-keeps v entries); never12 = λ h. h }
+sender-does l (pack src dst out) v fair = pack-does v src dst out fair
+sender-does l reserve v fair = reserve-does v

@@ -1,4 +1,4 @@
--- The window's side of the invariant: a fresh window has it and every call on the window keeps it; and what follows of the number expected and of 12.
+-- The window's side of the invariant: a fresh window has it, and every call on the window keeps it and is not refused with 12; and what follows of the number expected.
 -- What a call says and which numbers it leaves held is taken from the window's own laws; here it is joined to what has entered.
 -- Assumes nothing.
 use Prim.Native.Nat.{ℕ, zero, suc, _+_, _-_, _≤_, _<_}
@@ -14,11 +14,14 @@ use Rattle.refusal.specs.Said.{refusalIn}
 use Rattle.lists.specs.Numbers.{largest}
 use Rattle.window.specs.Window.{Outcome, expected, window, held, member, wellFormed, numbers, insertPacketNumber, beforeHeld, insertRange, consume}
 use Rattle.window.specs.declared.SlidingWindow.{SlidingWindow}
+use Rattle.ordered_bytes.specs.declared.OrderedBytes.{OrderedBytes}
 use Rattle.window.proofs.Rises.{both, not-below, well-formed}
 use Rattle.window.proofs.Members.{among, member-append, member-numbers}
 use Rattle.window.proofs.Calls as calls
 use Rattle.receive.proofs.Twelve.{range-never}
-use Rattle.link.specs.Demand3.{WindowSide, entering, enteringRange, inserted, rangeInserted, expectsAfter, windowConsumed, ExpectsFirst}
+use Rattle.link.specs.Demand3.{WindowSide, WindowCall, insert, insert-range, consume-window, Ack, Link, Memory, Called, withCells, withEntered}
+use Rattle.link.specs.Demand3.{insertedBy, rangeInsertedBy, consumedBy, expectsAfter, callWindow, fresh, In, FairWindow, ExpectsFirst}
+use Rattle.link.proofs.All.{only}
 use Rattle.link.proofs.Invariant.{WindowKeeps}
 
 -- ---- which numbers have entered
@@ -49,13 +52,13 @@ held-above w cells n h m = by (ltb n (expected w)) refl
 
 -- ---- a fresh window
 
-pub window-begins : (s : ℕ) (cells : List ℕ) → WindowKeeps s s (record { state = window s 0; cells = cells; entered = []; expects = s })
+pub window-begins : (s w : ℕ) (o : OrderedBytes) (m : Memory) → WindowKeeps s s (fresh s w o m .acked)
 unfolding member
-window-begins s cells = record {
-  good = calls.new-well-formed s cells;
+window-begins s w o m = record {
+  good = calls.new-well-formed s (m .cells);
   expects = refl;
   from = le-refl s;
-  same = λ n l. calls.new-empty s n cells;
+  same = λ n l. calls.new-empty s n (m .cells);
   passed = λ n l u. absurd (omega arith);
   inside = λ n m. absurd (false≢true m);
 }
@@ -80,7 +83,7 @@ module _ {s f : ℕ} {d : WindowSide} (v : WindowKeeps s f d) where
 
   -- where the window's law says that k numbers from b on were added, these have entered
   adds-keeps : (o : Outcome Unit) (b k : ℕ) → calls.Keeps o → calls.Adds (d .state) (d .cells) o b k → b + k ≤ f
-      → WindowKeeps s f (record { state = o .1; cells = o .2; entered = numbers b k ++ d .entered; expects = d .expects })
+      → WindowKeeps s f (withCells (o .1) (o .2) (withEntered (numbers b k ++ d .entered) d))
   adds-keeps o b k g a l = record {
     good = g;
     expects = v .expects ∙ sym (a .same);
@@ -94,29 +97,23 @@ module _ {s f : ℕ} {d : WindowSide} (v : WindowKeeps s f d) where
       within n true q m = let u = ltb-true n (b + k) (both (leb b n) (ltb n (b + k)) q .1) in omega arith
       within n false q m = v .inside n m
 
-  pub insert-keeps : (n : ℕ) → n < f → WindowKeeps s f (inserted n d)
+  insert-keeps : (n : ℕ) → n < f → WindowKeeps s f (callWindow d (insert n) .left)
   unfolding numbers
   insert-keeps n l =
       let law = calls.insert-law (d .state) (d .cells) (v .good) n in
       by (insertPacketNumber (d .state) (d .cells) n) (law .0) (law .1)
     where
-      left : Outcome Unit → WindowSide
-      left o = record { state = o .1; cells = o .2; entered = entering (o .0) n (d .entered); expects = d .expects }
-
-      by : (o : Outcome Unit) → calls.Insertion (d .state) (d .cells) n o → calls.Keeps o → WindowKeeps s f (left o)
+      by : (o : Outcome Unit) → calls.Insertion (d .state) (d .cells) n o → calls.Keeps o → WindowKeeps s f (insertedBy o n d)
       by o (calls.stores q new a) g = rw q (adds-keeps o n 1 g a (omega arith))
       by o (calls.refusal r q not-12) g = rw q v
 
   -- at 7 what enters is what was stored: from the smallest expected on, the first that had entered is the first held
-  pub range-keeps : (base count : ℕ) → base + count ≤ f → WindowKeeps s f (rangeInserted base count d)
+  range-keeps : (base count : ℕ) → base + count ≤ f → WindowKeeps s f (callWindow d (insert-range base count) .left)
   range-keeps base count l =
       let law = calls.range-law (d .state) (d .cells) (v .good) base count in
       by (insertRange (d .state) (d .cells) base count) (law .0) (law .1)
     where
-      left : Outcome Unit → WindowSide
-      left o = record { state = o .1; cells = o .2; entered = enteringRange (o .0) base count (d .entered); expects = d .expects }
-
-      by : (o : Outcome Unit) → calls.RangeInsertion (d .state) (d .cells) base count o → calls.Keeps o → WindowKeeps s f (left o)
+      by : (o : Outcome Unit) → calls.RangeInsertion (d .state) (d .cells) base count o → calls.Keeps o → WindowKeeps s f (rangeInsertedBy o base count d)
       by o (calls.stores q free a) g = rw q (adds-keeps o base count g a l)
       by o (calls.stops k u q free m a) g =
           let none-before : (i : ℕ) → i < k → member (base + i) (d .entered) ≡ false =
@@ -126,16 +123,12 @@ module _ {s f : ℕ} {d : WindowSide} (v : WindowKeeps s f d) where
 
   -- ---- the run is consumed
 
-  -- the side that a consume leaves which came to o
-  abbrev left-consumed : Outcome (Option (ℕ × ℕ)) → WindowSide
-  left-consumed o = record { state = o .1; cells = o .2; entered = d .entered; expects = expectsAfter (o .0) (d .expects) }
-
-  pub consume-keeps : WindowKeeps s f (windowConsumed d)
+  consume-keeps : WindowKeeps s f (callWindow d consume-window .left)
   consume-keeps =
       let law = calls.consume-law (d .state) (d .cells) (v .good) in
       by (consume (d .state) (d .cells)) (law .0) (law .1)
     where
-      by : (o : Outcome (Option (ℕ × ℕ))) → calls.Consumption (d .state) (d .cells) o → calls.Keeps o → WindowKeeps s f (left-consumed o)
+      by : (o : Outcome (Option (ℕ × ℕ))) → calls.Consumption (d .state) (d .cells) o → calls.Keeps o → WindowKeeps s f (consumedBy o d)
       by o (calls.run last size q any sum up run end kept) g = rw q record {
         good = g;
         expects = sym up;
@@ -167,7 +160,7 @@ module _ {s f : ℕ} {d : WindowSide} (v : WindowKeeps s f d) where
   below-expected : (n : ℕ) → s ≤ n → n < d .expects → member n (d .entered) ≡ true
   below-expected n l u = v .passed n l (rw (v .expects) at u)
 
-  consume-ends : member (windowConsumed d .expects) (d .entered) ≡ false
+  consume-ends : member (callWindow d consume-window .left .expects) (d .entered) ≡ false
   consume-ends = by (consume (d .state) (d .cells)) (calls.consume-law (d .state) (d .cells) (v .good) .0)
     where
       by : (o : Outcome (Option (ℕ × ℕ))) → calls.Consumption (d .state) (d .cells) o → member (expectsAfter (o .0) (d .expects)) (d .entered) ≡ false
@@ -176,17 +169,17 @@ module _ {s f : ℕ} {d : WindowSide} (v : WindowKeeps s f d) where
 
   -- ---- no call answers 12
 
-  pub insert-well : (n : ℕ) → refusalIn (insertPacketNumber (d .state) (d .cells) n .0) ≡ 12 → ⊥
+  insert-well : (n : ℕ) → refusalIn (insertPacketNumber (d .state) (d .cells) n .0) ≡ 12 → ⊥
   insert-well n = by (insertPacketNumber (d .state) (d .cells) n) (calls.insert-law (d .state) (d .cells) (v .good) n .0)
     where
       by : (o : Outcome Unit) → calls.Insertion (d .state) (d .cells) n o → refusalIn (o .0) ≡ 12 → ⊥
       by o (calls.stores q new a) e = omega (arith, rw q at e)
       by o (calls.refusal r q not-12) e = not-12 (rw q at e)
 
-  pub range-well : (base count : ℕ) → refusalIn (insertRange (d .state) (d .cells) base count .0) ≡ 12 → ⊥
+  range-well : (base count : ℕ) → refusalIn (insertRange (d .state) (d .cells) base count .0) ≡ 12 → ⊥
   range-well base count = range-never (d .state) (d .cells) base count (v .good)
 
-  pub consume-well : refusalIn (consume (d .state) (d .cells) .0) ≡ 12 → ⊥
+  consume-well : refusalIn (consume (d .state) (d .cells) .0) ≡ 12 → ⊥
   consume-well = by (consume (d .state) (d .cells)) (calls.consume-law (d .state) (d .cells) (v .good) .0)
     where
       by : (o : Outcome (Option (ℕ × ℕ))) → calls.Consumption (d .state) (d .cells) o → refusalIn (o .0) ≡ 12 → ⊥
@@ -194,7 +187,24 @@ module _ {s f : ℕ} {d : WindowSide} (v : WindowKeeps s f d) where
       by o (calls.nothing q end) e = omega (arith, rw q at e)
 
 -- after a consume, also one that answers none, the window expects the first number that has not entered
-pub consume-first : {s f : ℕ} {d : WindowSide} → WindowKeeps s f d → ExpectsFirst s (windowConsumed d)
+pub consume-first : {s f : ℕ} {d : WindowSide} → WindowKeeps s f d → ExpectsFirst s (callWindow d consume-window .left)
 consume-first v =
     let after = consume-keeps v in
     record { from = omega (arith, after .from, after .expects); below = below-expected after; absent = consume-ends v }
+
+pub record WindowDoes (s f : ℕ) (c : Called WindowSide) : Type 0 where
+  pub keeps : WindowKeeps s f (c .left)
+  pub never12 : In 12 (c .refusals) → ⊥
+
+-- where the acks given reach no further than f
+pub window-does : {s f : ℕ} (l : Link) (c : WindowCall) → WindowKeeps s f (l .acked) → ((a : Ack) → In a (l .receiver .acks) → a .base + a .count ≤ f)
+    → FairWindow l c → WindowDoes s f (callWindow (l .acked) c)
+window-does l (insert n) v within fair = record {
+  keeps = insert-keeps v n (omega (arith, within (fair .ack) (fair .given), fair .below));
+  never12 = λ h. insert-well v n (sym (only h));
+}
+window-does l (insert-range base count) v within fair = record {
+  keeps = range-keeps v base count (within (record { base = base; count = count }) fair);
+  never12 = λ h. range-well v base count (sym (only h));
+}
+window-does l consume-window v within fair = record { keeps = consume-keeps v; never12 = λ h. consume-well v (sym (only h)) }

@@ -12,10 +12,10 @@ use Rattle.packet.specs.Packet.{Packet, joined}
 use Rattle.packet.specs.Datagram.{readingLimit, cellsIn, cellsWritten, parsesInto, parsed, listed}
 use Rattle.packet.proofs.Trip.{Readable, parsed-joined, listed-joined}
 use Rattle.packet.proofs.Index.{answered-all, listed-all, listed-parsed}
-use Rattle.writer.specs.Packing.{packing, byteLimit, dataPacket, numbered, packetsMade}
+use Rattle.writer.specs.Packing.{dataPacket, numbered, packetsMade}
 use Rattle.writer.specs.declared.DataPacked.{DataPacked}
 use Rattle.writer.proofs.Made.{Answered, answered, made-counted, made-fits, made-readable, written-made}
-use Rattle.link.specs.Demand3.{Link, Parser, from-bytes, from-bytes-into, dataOf, ReadsBack, Wrote}
+use Rattle.link.specs.Demand3.{SenderSide, limitOf, packingOf, Parser, from-bytes, from-bytes-into, dataOf, ReadsBack, Wrote}
 
 -- all packets made carry data
 data-numbered : (src dst n : ℕ) (ps : List (List ℕ)) → dataOf (numbered src dst n ps) ≡ numbered src dst n ps
@@ -35,31 +35,31 @@ module _ {ps : List Packet} (r : Readable ps) (fits : length (joined ps) ≤ rea
   reads-back from-bytes = record {
     counts = counts-back;
     lists = listed-joined r fits index room;
-    indexes = rw counts-back (ap dataOf lists-back ∙ all-data);
+    indexes = λ expected. rw counts-back (ap dataOf lists-back ∙ all-data);
   }
   reads-back from-bytes-into =
       let a = answered-all (joined ps) (cellsIn index) (length ps) counts-back in
       let all : cellsWritten (joined ps) index ≡ length ps = omega (arith, a .all, a .fits) in
-      record { counts = counts-back; lists = lists-back; indexes = rw all (ap dataOf lists-back ∙ all-data) }
+      record { counts = counts-back; lists = lists-back; indexes = λ expected. rw all (ap dataOf lists-back ∙ all-data) }
 
-module _ (l : Link) (src dst : ℕ) (out : List ℕ) (p : DataPacked) (e : packing byteLimit (l .sender .queue) (l .sender .next) src dst out .0 ≡ answers p) where
+module _ (d : SenderSide) (src dst : ℕ) (out : List ℕ) (p : DataPacked) (e : packingOf d src dst out .0 ≡ answers p) where
   made : List Packet
-  made = packetsMade byteLimit src dst (l .sender .next) (l .sender .queue .bytes)
+  made = packetsMade (limitOf d) src dst (d .next) (d .queue .bytes)
 
-  did : Answered byteLimit (l .sender .queue) (l .sender .next) src dst out p
-  did = answered byteLimit (l .sender .queue) (l .sender .next) src dst out p e
+  did : Answered (limitOf d) (d .queue) (d .next) src dst out p
+  did = answered (limitOf d) (d .queue) (d .next) src dst out p e
 
-  pub wrote : Wrote l src dst out p
+  pub wrote : Wrote d src dst out p
   unfolding made
   wrote =
-      let count = made-counted byteLimit (l .sender .queue) (l .sender .next) src dst out p did in
+      let count = made-counted (limitOf d) (d .queue) (d .next) src dst out p did in
       record {
         packets = made;
         counted = count;
         added = rw e;
-        written = written-made byteLimit (l .sender .queue) (l .sender .next) src dst out p did;
+        written = written-made (limitOf d) (d .queue) (d .next) src dst out p did;
         readBack = λ source destination some parser index room.
-            reads-back (made-readable byteLimit (l .sender .queue) (l .sender .next) src dst out p did source destination some)
-            (made-fits byteLimit src dst (l .sender .next) (l .sender .queue .bytes) (le-refl byteLimit))
-            (data-numbered src dst (l .sender .next) _) index (rw count room) parser;
+            reads-back (made-readable (limitOf d) (d .queue) (d .next) src dst out p did source destination some)
+            (made-fits (limitOf d) src dst (d .next) (d .queue .bytes) (le-refl (limitOf d)))
+            (data-numbered src dst (d .next) _) index (rw count room) parser;
       }

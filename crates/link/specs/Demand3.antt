@@ -18,9 +18,9 @@ use Rattle.writer.specs.Packing.{Queue, packing, packetsMade, dequeued, byteLim
 use Rattle.writer.specs.Reserve.{reserving}
 use Rattle.writer.specs.declared.DataPacked.{DataPacked}
 use Rattle.ordered_bytes.specs.Buffer.{Buffer}
-use Rattle.ordered_bytes.specs.Calls.{creating, accepting, peeking, consuming, consumingBytes}
+use Rattle.ordered_bytes.specs.Calls.{Acceptance, creating, accepting, peeking, consuming, consumingBytes}
 use Rattle.ordered_bytes.specs.declared.OrderedBytes.{OrderedBytes}
-use Rattle.window.specs.Window.{window, member, insertPacketNumber, insertRange, consume, beforeHeld, numbers}
+use Rattle.window.specs.Window.{Outcome, window, member, insertPacketNumber, insertRange, consume, beforeHeld, numbers}
 use Rattle.window.specs.declared.SlidingWindow.{SlidingWindow}
 
 -- ---- the link: what the calls hold, and below it the history
@@ -33,6 +33,21 @@ pub record SenderSide : Type 0 where
   pub made : List Packet
   pub closing : Bool
 
+abbrev pub withQueue : Queue → SenderSide → SenderSide
+withQueue q d = record { queue = q; next = d .next; queued = d .queued; made = d .made; closing = d .closing }
+
+abbrev pub withNext : ℕ → SenderSide → SenderSide
+withNext n d = record { queue = d .queue; next = n; queued = d .queued; made = d .made; closing = d .closing }
+
+abbrev pub withQueued : List ℕ → SenderSide → SenderSide
+withQueued bytes d = record { queue = d .queue; next = d .next; queued = bytes; made = d .made; closing = d .closing }
+
+abbrev pub withMade : List Packet → SenderSide → SenderSide
+withMade packets d = record { queue = d .queue; next = d .next; queued = d .queued; made = packets; closing = d .closing }
+
+abbrev pub withClosing : Bool → SenderSide → SenderSide
+withClosing c d = record { queue = d .queue; next = d .next; queued = d .queued; made = d .made; closing = c }
+
 -- base and count of a read that took packets
 pub record Ack : Type 0 where
   pub base : ℕ
@@ -40,11 +55,26 @@ pub record Ack : Type 0 where
 
 pub record ReceiverSide : Type 0 where
   pub buffer : Buffer
-  -- the numbers accepted without refusal, the bytes that the reads gave, their acks, and the packets that their answers count
+  -- the numbers accepted without refusal, the bytes that the reads gave, their acks, oldest first, and the packets that their answers count
   pub accepted : List ℕ
   pub delivered : List ℕ
   pub acks : List Ack
   pub counted : ℕ
+
+abbrev pub withBuffer : Buffer → ReceiverSide → ReceiverSide
+withBuffer b d = record { buffer = b; accepted = d .accepted; delivered = d .delivered; acks = d .acks; counted = d .counted }
+
+abbrev pub withAccepted : List ℕ → ReceiverSide → ReceiverSide
+withAccepted numbers d = record { buffer = d .buffer; accepted = numbers; delivered = d .delivered; acks = d .acks; counted = d .counted }
+
+abbrev pub withDelivered : List ℕ → ReceiverSide → ReceiverSide
+withDelivered bytes d = record { buffer = d .buffer; accepted = d .accepted; delivered = bytes; acks = d .acks; counted = d .counted }
+
+abbrev pub withAcks : List Ack → ReceiverSide → ReceiverSide
+withAcks given d = record { buffer = d .buffer; accepted = d .accepted; delivered = d .delivered; acks = given; counted = d .counted }
+
+abbrev pub withCounted : ℕ → ReceiverSide → ReceiverSide
+withCounted k d = record { buffer = d .buffer; accepted = d .accepted; delivered = d .delivered; acks = d .acks; counted = k }
 
 pub record WindowSide : Type 0 where
   pub state : SlidingWindow
@@ -53,123 +83,180 @@ pub record WindowSide : Type 0 where
   pub entered : List ℕ
   pub expects : ℕ
 
+-- the window and its cells change together
+abbrev pub withCells : SlidingWindow → List ℕ → WindowSide → WindowSide
+withCells w cells d = record { state = w; cells = cells; entered = d .entered; expects = d .expects }
+
+abbrev pub withEntered : List ℕ → WindowSide → WindowSide
+withEntered numbers d = record { state = d .state; cells = d .cells; entered = numbers; expects = d .expects }
+
+abbrev pub withExpects : ℕ → WindowSide → WindowSide
+withExpects n d = record { state = d .state; cells = d .cells; entered = d .entered; expects = n }
+
 pub record Link : Type 0 where
   pub sender : SenderSide
   pub receiver : ReceiverSide
   pub acked : WindowSide
 
--- "Fresh: one sender, queue empty, nothing in receiver and window, all from one number s": `o` is what `new` answers for the lent lists
-abbrev pub fresh : ℕ → ℕ → OrderedBytes → List Bool → List ℕ → List ℕ → List ℕ → Link
-fresh s w o marks lengths store cells =
-    let made = creating w s marks lengths store in
+abbrev pub withSender : SenderSide → Link → Link
+withSender d l = record { sender = d; receiver = l .receiver; acked = l .acked }
+
+abbrev pub withReceiver : ReceiverSide → Link → Link
+withReceiver d l = record { sender = l .sender; receiver = d; acked = l .acked }
+
+abbrev pub withWindow : WindowSide → Link → Link
+withWindow d l = record { sender = l .sender; receiver = l .receiver; acked = d }
+
+-- the lent memory of a fresh link: the receive buffer's three lists, and the window's cells
+pub record Memory : Type 0 where
+  pub marks : List Bool
+  pub lengths : List ℕ
+  pub store : List ℕ
+  pub cells : List ℕ
+
+-- "Fresh: one sender, queue empty, nothing in receiver and window, all from one number s": `o` is what `new` answers for slots of width w in the lent memory
+abbrev pub fresh : ℕ → ℕ → OrderedBytes → Memory → Link
+fresh s w o m =
+    let made = creating w s (m .marks) (m .lengths) (m .store) in
     record {
       sender = record { queue = record { bytes = []; lengths = [] }; next = s; queued = []; made = []; closing = false };
       receiver = record {
-        buffer = record { state = o; marks = made .marks; lengths = made .lengths; store = store };
+        buffer = record { state = o; marks = made .marks; lengths = made .lengths; store = m .store };
         accepted = [];
         delivered = [];
         acks = [];
         counted = 0;
       };
-      acked = record { state = window s 0; cells = cells; entered = []; expects = s };
+      acked = record { state = window s 0; cells = m .cells; entered = []; expects = s };
     }
 
--- ---- the calls, each with its arguments and the lent lists that it is given
+-- ---- the calls by side, each with its arguments and the lent lists that it is given
+
+pub data SenderCall : Type 0 where
+  -- the entries given
+  enqueue : List (List ℕ) → SenderCall
+  -- source and destination id, output
+  pack : ℕ → ℕ → List ℕ → SenderCall
+  reserve : SenderCall
 
 pub data Parser : Type 0 where
   from-bytes : Parser
   from-bytes-into : Parser
 
-pub data Call : Type 0 where
-  -- the entries given
-  enqueue : List (List ℕ) → Call
-  -- source and destination id, output
-  pack : ℕ → ℕ → List ℕ → Call
+pub data ReceiverCall : Type 0 where
   -- "An arrival is `from_bytes` or `from_bytes_into`, on any bytes .., then accepting any of those, in any order": datagram, index, the packets accepted
-  arrive : Parser → List ℕ → List ℕ → List Packet → Call
+  arrive : Parser → List ℕ → List ℕ → List Packet → ReceiverCall
   -- length, output
-  read : ℕ → List ℕ → Call
+  read : ℕ → List ℕ → ReceiverCall
   -- limit, output, list of lengths
-  read-pieces : ℕ → List ℕ → List ℕ → Call
-  peek : Call
-  insert : ℕ → Call
-  insert-range : ℕ → ℕ → Call
-  consume-window : Call
-  reserve : Call
+  read-pieces : ℕ → List ℕ → List ℕ → ReceiverCall
+  peek : ReceiverCall
 
--- ---- what each call leaves
+pub data WindowCall : Type 0 where
+  insert : ℕ → WindowCall
+  insert-range : ℕ → ℕ → WindowCall
+  consume-window : WindowCall
+
+pub data Call : Type 0 where
+  on-sender : SenderCall → Call
+  on-receiver : ReceiverCall → Call
+  on-window : WindowCall → Call
+
+-- what a call on a side comes to: what it, or each of the calls that it is made of, was refused with, in order (0 for one that was not), and the side that it leaves
+pub record Called (Side : Type 0) : Type 0 where
+  pub refusals : List ℕ
+  pub left : Side
+
+-- ---- the sender's calls
 
 -- "Queueing is the caller's own step and adds the entries given at the queue's end"
 abbrev pub enqueued : List (List ℕ) → SenderSide → SenderSide
-enqueued entries d = record {
-  queue = record { bytes = d .queue .bytes ++ flatten entries; lengths = d .queue .lengths ++ map length entries };
-  next = d .next;
-  queued = d .queued ++ flatten entries;
-  made = d .made;
-  closing = d .closing;
-}
+enqueued entries d =
+    let q : Queue = record { bytes = d .queue .bytes ++ flatten entries; lengths = d .queue .lengths ++ map length entries } in
+    withQueue q (withQueued (d .queued ++ flatten entries) d)
+
+-- how many bytes a packing may take
+abbrev pub limitOf : SenderSide → ℕ
+limitOf d = byteLimit
+
+-- what a packing says, and its output as it leaves it
+abbrev pub packingOf : SenderSide → ℕ → ℕ → List ℕ → Said DataPacked × List ℕ
+packingOf d src dst out = packing (limitOf d) (d .queue) (d .next) src dst out
 
 abbrev pub packedBy : Said DataPacked → ℕ → ℕ → SenderSide → SenderSide
-packedBy (answers p) src dst d = record {
-  queue = dequeued p (d .queue);
-  next = p .«next_packet_num»;
-  queued = d .queued;
-  made = d .made ++ packetsMade byteLimit src dst (d .next) (d .queue .bytes);
-  closing = d .closing;
-}
+packedBy (answers p) src dst d =
+    withQueue (dequeued p (d .queue)) (withNext (p .«next_packet_num») (withMade (d .made ++ packetsMade (limitOf d) src dst (d .next) (d .queue .bytes)) d))
 packedBy (refuses r) src dst d = d
 packedBy (refusesAt r at) src dst d = d
 
-abbrev pub packed : ℕ → ℕ → List ℕ → SenderSide → SenderSide
-packed src dst out d = packedBy (packing byteLimit (d .queue) (d .next) src dst out .0) src dst d
-
 abbrev pub reservedBy : Said (ℕ × ℕ) → SenderSide → SenderSide
-reservedBy (answers n) d = record { queue = d .queue; next = n .1; queued = d .queued; made = d .made; closing = true }
+reservedBy (answers n) d = withNext (n .1) (withClosing true d)
 reservedBy (refuses r) d = d
 reservedBy (refusesAt r at) d = d
 
+abbrev pub callSender : SenderSide → SenderCall → Called SenderSide
+callSender d (enqueue entries) = record { refusals = []; left = enqueued entries d }
+callSender d (pack src dst out) = let said = packingOf d src dst out .0 in record { refusals = refusalIn said ∷ []; left = packedBy said src dst d }
+callSender d reserve = let said = reserving (d .next) in record { refusals = refusalIn said ∷ []; left = reservedBy said d }
+
+-- ---- the receiver's calls
+
 abbrev pub acceptedBy : Said Unit → Buffer → ℕ → ReceiverSide → ReceiverSide
-acceptedBy (answers u) b n d = record { buffer = b; accepted = n ∷ d .accepted; delivered = d .delivered; acks = d .acks; counted = d .counted }
-acceptedBy (refuses r) b n d = record { buffer = b; accepted = d .accepted; delivered = d .delivered; acks = d .acks; counted = d .counted }
-acceptedBy (refusesAt r at) b n d = record { buffer = b; accepted = d .accepted; delivered = d .delivered; acks = d .acks; counted = d .counted }
+acceptedBy (answers u) b n d = withBuffer b (withAccepted (n ∷ d .accepted) d)
+acceptedBy (refuses r) b n d = withBuffer b d
+acceptedBy (refusesAt r at) b n d = withBuffer b d
+
+abbrev pub accept : Packet → ReceiverSide → Acceptance
+accept p d = accepting (d .buffer) (p .header .«packet_number») (p .payload)
 
 abbrev pub acceptedOne : Packet → ReceiverSide → ReceiverSide
-acceptedOne p d =
-    let n = p .header .«packet_number» in
-    let a = accepting (d .buffer) n (p .payload) in
-    acceptedBy (a .said) (a .buffer) n d
+acceptedOne p d = acceptedBy (accept p d .said) (accept p d .buffer) (p .header .«packet_number») d
 
 unfoldable pub acceptedAll : List Packet → ReceiverSide → ReceiverSide
 acceptedAll [] d = d
 acceptedAll (p ∷ ps) d = acceptedAll ps (acceptedOne p d)
+
+unfoldable pub acceptRefusals : List Packet → ReceiverSide → List ℕ
+acceptRefusals [] d = []
+acceptRefusals (p ∷ ps) d = refusalIn (accept p d .said) ∷ acceptRefusals ps (acceptedOne p d)
+
+-- what a parser answers, and the index that it leaves
+abbrev pub parsing : Parser → List ℕ → List ℕ → Said ℕ × List ℕ
+parsing from-bytes datagram index = parses datagram index
+parsing from-bytes-into datagram index = parsesInto datagram index
 
 -- "Acks come from earlier reads that took packets"
 abbrev pub ackOf : ℕ → ℕ → List Ack
 ackOf base zero = []
 ackOf base (suc n) = record { base = base; count = suc n } ∷ []
 
--- what a read gave stands at the output's start
+-- packets taken, base and bytes: what a read gave stands at the output's start
 abbrev pub gave : ℕ × ℕ × ℕ → Buffer → List ℕ → ReceiverSide → ReceiverSide
-gave v b out d = record {
-  buffer = b;
-  accepted = d .accepted;
-  delivered = d .delivered ++ take (v .2) out;
-  acks = ackOf (v .1) (v .0) ++ d .acks;
-  counted = d .counted + v .0;
-}
-
-abbrev pub gaveNothing : Buffer → ReceiverSide → ReceiverSide
-gaveNothing b d = record { buffer = b; accepted = d .accepted; delivered = d .delivered; acks = d .acks; counted = d .counted }
+gave v b out d =
+    withBuffer b (withDelivered (d .delivered ++ take (v .2) out) (withAcks (d .acks ++ ackOf (v .1) (v .0)) (withCounted (d .counted + v .0) d)))
 
 abbrev pub readBy : Said (ℕ × ℕ × ℕ) → Buffer → List ℕ → ReceiverSide → ReceiverSide
 readBy (answers v) b out d = gave v b out d
-readBy (refuses r) b out d = gaveNothing b d
-readBy (refusesAt r at) b out d = gaveNothing b d
+readBy (refuses r) b out d = withBuffer b d
+readBy (refusesAt r at) b out d = withBuffer b d
 
 abbrev pub readPiecesBy : Said ((ℕ × ℕ × ℕ) × ℕ) → Buffer → List ℕ → ReceiverSide → ReceiverSide
 readPiecesBy (answers v) b out d = gave (v .0) b out d
-readPiecesBy (refuses r) b out d = gaveNothing b d
-readPiecesBy (refusesAt r at) b out d = gaveNothing b d
+readPiecesBy (refuses r) b out d = withBuffer b d
+readPiecesBy (refusesAt r at) b out d = withBuffer b d
+
+abbrev pub callReceiver : ReceiverSide → ReceiverCall → Called ReceiverSide
+callReceiver d (arrive parser datagram index packets) = record {
+  refusals = refusalIn (parsing parser datagram index .0) ∷ acceptRefusals packets d;
+  left = acceptedAll packets d;
+}
+callReceiver d (read len out) =
+    let c = consuming (d .buffer) len out in record { refusals = refusalIn (c .said) ∷ []; left = readBy (c .said) (c .buffer) (c .out) d }
+callReceiver d (read-pieces limit out list) =
+    let c = consumingBytes (d .buffer) limit out list in record { refusals = refusalIn (c .said) ∷ []; left = readPiecesBy (c .said) (c .buffer) (c .out) d }
+callReceiver d peek = record { refusals = refusalIn (peeking (d .buffer)) ∷ []; left = d }
+
+-- ---- the window's calls
 
 -- "Entered: given to an unrefused `insert` or `insert_range`, or, at the latter's 7, in the range and below its first number that had entered before"
 abbrev pub entering : Said Unit → ℕ → List ℕ → List ℕ
@@ -182,48 +269,39 @@ enteringRange (answers u) base count entered = numbers base count ++ entered
 enteringRange (refuses r) base count entered = cond (eqb r 7) (numbers base (beforeHeld base count entered) ++ entered) entered
 enteringRange (refusesAt r at) base count entered = entered
 
-abbrev pub inserted : ℕ → WindowSide → WindowSide
-inserted n d =
-    let o = insertPacketNumber (d .state) (d .cells) n in
-    record { state = o .1; cells = o .2; entered = entering (o .0) n (d .entered); expects = d .expects }
-
-abbrev pub rangeInserted : ℕ → ℕ → WindowSide → WindowSide
-rangeInserted base count d =
-    let o = insertRange (d .state) (d .cells) base count in
-    record { state = o .1; cells = o .2; entered = enteringRange (o .0) base count (d .entered); expects = d .expects }
-
 abbrev pub expectsAfter : Said (Option (ℕ × ℕ)) → ℕ → ℕ
 expectsAfter (answers (some run)) e = run .0 + 1
 expectsAfter (answers none) e = e
 expectsAfter (refuses r) e = e
 expectsAfter (refusesAt r at) e = e
 
-abbrev pub windowConsumed : WindowSide → WindowSide
-windowConsumed d =
-    let o = consume (d .state) (d .cells) in
-    record { state = o .1; cells = o .2; entered = d .entered; expects = expectsAfter (o .0) (d .expects) }
+-- what a call that came to o leaves: what has entered, or which number is expected, is told by its answer
+abbrev pub insertedBy : Outcome Unit → ℕ → WindowSide → WindowSide
+insertedBy o n d = withCells (o .1) (o .2) (withEntered (entering (o .0) n (d .entered)) d)
 
-abbrev pub withSender : Link → SenderSide → Link
-withSender l d = record { sender = d; receiver = l .receiver; acked = l .acked }
+abbrev pub rangeInsertedBy : Outcome Unit → ℕ → ℕ → WindowSide → WindowSide
+rangeInsertedBy o base count d = withCells (o .1) (o .2) (withEntered (enteringRange (o .0) base count (d .entered)) d)
 
-abbrev pub withReceiver : Link → ReceiverSide → Link
-withReceiver l d = record { sender = l .sender; receiver = d; acked = l .acked }
+abbrev pub consumedBy : Outcome (Option (ℕ × ℕ)) → WindowSide → WindowSide
+consumedBy o d = withCells (o .1) (o .2) (withExpects (expectsAfter (o .0) (d .expects)) d)
 
-abbrev pub withWindow : Link → WindowSide → Link
-withWindow l d = record { sender = l .sender; receiver = l .receiver; acked = d }
+abbrev pub callWindow : WindowSide → WindowCall → Called WindowSide
+callWindow d (insert n) = let o = insertPacketNumber (d .state) (d .cells) n in record { refusals = refusalIn (o .0) ∷ []; left = insertedBy o n d }
+callWindow d (insert-range base count) =
+    let o = insertRange (d .state) (d .cells) base count in record { refusals = refusalIn (o .0) ∷ []; left = rangeInsertedBy o base count d }
+callWindow d consume-window = let o = consume (d .state) (d .cells) in record { refusals = refusalIn (o .0) ∷ []; left = consumedBy o d }
+
+-- ---- a call on the link, and a list of them
+
+abbrev pub refusals : Link → Call → List ℕ
+refusals l (on-sender c) = callSender (l .sender) c .refusals
+refusals l (on-receiver c) = callReceiver (l .receiver) c .refusals
+refusals l (on-window c) = callWindow (l .acked) c .refusals
 
 abbrev pub step : Link → Call → Link
-step l (enqueue entries) = withSender l (enqueued entries (l .sender))
-step l (pack src dst out) = withSender l (packed src dst out (l .sender))
-step l (arrive parser datagram index packets) = withReceiver l (acceptedAll packets (l .receiver))
-step l (read len out) = let c = consuming (l .receiver .buffer) len out in withReceiver l (readBy (c .said) (c .buffer) (c .out) (l .receiver))
-step l (read-pieces limit out list) =
-    let c = consumingBytes (l .receiver .buffer) limit out list in withReceiver l (readPiecesBy (c .said) (c .buffer) (c .out) (l .receiver))
-step l peek = l
-step l (insert n) = withWindow l (inserted n (l .acked))
-step l (insert-range base count) = withWindow l (rangeInserted base count (l .acked))
-step l consume-window = withWindow l (windowConsumed (l .acked))
-step l reserve = withSender l (reservedBy (reserving (l .sender .next)) (l .sender))
+step l (on-sender c) = withSender (callSender (l .sender) c .left) l
+step l (on-receiver c) = withReceiver (callReceiver (l .receiver) c .left) l
+step l (on-window c) = withWindow (callWindow (l .acked) c .left) l
 
 unfoldable pub run : Link → List Call → Link
 run l [] = l
@@ -250,14 +328,13 @@ listedBy (answers n) datagram index = listed datagram index n
 listedBy (refuses r) datagram index = []
 listedBy (refusesAt r at) datagram index = []
 
--- what a parser answers, and the index that it leaves
-abbrev pub parsing : Parser → List ℕ → List ℕ → Said ℕ × List ℕ
-parsing from-bytes datagram index = parses datagram index
-parsing from-bytes-into datagram index = parsesInto datagram index
+-- .. by a receiver whose front number is `expected`, which neither parser looks at
+abbrev pub indexed : ℕ → Parser → List ℕ → List ℕ → List Packet
+indexed expected from-bytes datagram index = dataOf (listedBy (parses datagram index .0) datagram (parses datagram index .1))
+indexed expected from-bytes-into datagram index = dataOf (listed datagram (parsesInto datagram index .1) (cellsWritten datagram index))
 
-abbrev pub indexed : Parser → List ℕ → List ℕ → List Packet
-indexed from-bytes datagram index = dataOf (listedBy (parses datagram index .0) datagram (parses datagram index .1))
-indexed from-bytes-into datagram index = dataOf (listed datagram (parsesInto datagram index .1) (cellsWritten datagram index))
+abbrev pub indexedOn : Link → Parser → List ℕ → List ℕ → List Packet
+indexedOn l = indexed (l .receiver .buffer .state .«front_number»)
 
 -- "made earlier in the list (same number, same payload)"
 pub record MadeEarlier (l : Link) (p : Packet) : Type 0 where
@@ -273,29 +350,38 @@ pub record Acked (l : Link) (n : ℕ) : Type 0 where
   pub from : ack .base ≤ n
   pub below : n < ack .base + ack .count
 
-abbrev pub Fair : Link → Call → Type 0
-Fair l (enqueue entries) = Unit
+abbrev pub FairSender : Link → SenderCall → Type 0
+FairSender l (enqueue entries) = Unit
 -- "no data packed after a FIN's number was reserved"
-Fair l (pack src dst out) = l .sender .closing ≡ true → packed src dst out (l .sender) .made ≡ l .sender .made
-Fair l (arrive parser datagram index packets) = All (MadeEarlier l) (indexed parser datagram index) × All (λ p. In p (indexed parser datagram index)) packets
-Fair l (read len out) = Unit
-Fair l (read-pieces limit out list) = Unit
-Fair l peek = Unit
-Fair l (insert n) = Acked l n
-Fair l (insert-range base count) = In (record { base = base; count = count }) (l .receiver .acks)
-Fair l consume-window = Unit
-Fair l reserve = Unit
+FairSender l (pack src dst out) = l .sender .closing ≡ true → callSender (l .sender) (pack src dst out) .left .made ≡ l .sender .made
+FairSender l reserve = Unit
+
+abbrev pub FairReceiver : Link → ReceiverCall → Type 0
+FairReceiver l (arrive parser datagram index packets) = All (MadeEarlier l) (indexedOn l parser datagram index) × All (λ p. In p (indexedOn l parser datagram index)) packets
+FairReceiver l (read len out) = Unit
+FairReceiver l (read-pieces limit out list) = Unit
+FairReceiver l peek = Unit
+
+abbrev pub FairWindow : Link → WindowCall → Type 0
+FairWindow l (insert n) = Acked l n
+FairWindow l (insert-range base count) = In (record { base = base; count = count }) (l .receiver .acks)
+FairWindow l consume-window = Unit
+
+abbrev pub Fair : Link → Call → Type 0
+Fair l (on-sender c) = FairSender l c
+Fair l (on-receiver c) = FairReceiver l c
+Fair l (on-window c) = FairWindow l c
 
 unfoldable pub Fairly : Link → List Call → Type 0
 Fairly l [] = Unit
 Fairly l (c ∷ cs) = Fair l c × Fairly (step l c) cs
 
 -- a fresh link on any lent memory that `new` takes, "W at least 1,500", and a list of calls that keeps the premises
-pub record Premises (s w : ℕ) (o : OrderedBytes) (marks : List Bool) (lengths store cells : List ℕ) (calls : List Call) : Type 0 where
+pub record Premises (s w : ℕ) (o : OrderedBytes) (m : Memory) (calls : List Call) : Type 0 where
   pub start : s ≤ largest
-  pub new : creating w s marks lengths store .said ≡ answers o
+  pub new : creating w s (m .marks) (m .lengths) (m .store) .said ≡ answers o
   pub wide : payloadSize ≤ w
-  pub fair : Fairly (fresh s w o marks lengths store cells) calls
+  pub fair : Fairly (fresh s w o m) calls
 
 -- ---- the conclusions
 
@@ -322,34 +408,9 @@ pub record Covered (s : ℕ) (l : Link) (bytes : List ℕ) : Type 0 where
   pub start : Start bytes (flatten payloads)
 
 -- a read with length or limit at least 1
-abbrev pub Reads : Call → Type 0
-Reads (enqueue entries) = ⊥
-Reads (pack src dst out) = ⊥
-Reads (arrive parser datagram index packets) = ⊥
-Reads (read len out) = 0 < len
-Reads (read-pieces limit out list) = 0 < limit
-Reads peek = ⊥
-Reads (insert n) = ⊥
-Reads (insert-range base count) = ⊥
-Reads consume-window = ⊥
-Reads reserve = ⊥
-
-unfoldable pub acceptRefusals : List Packet → ReceiverSide → List ℕ
-acceptRefusals [] d = []
-acceptRefusals (p ∷ ps) d = refusalIn (accepting (d .buffer) (p .header .«packet_number») (p .payload) .said) ∷ acceptRefusals ps (acceptedOne p d)
-
--- what a call, or each of the calls that it is made of, was refused with, in order: 0 for one that was not
-abbrev pub refusals : Link → Call → List ℕ
-refusals l (enqueue entries) = []
-refusals l (pack src dst out) = refusalIn (packing byteLimit (l .sender .queue) (l .sender .next) src dst out .0) ∷ []
-refusals l (arrive parser datagram index packets) = refusalIn (parsing parser datagram index .0) ∷ acceptRefusals packets (l .receiver)
-refusals l (read len out) = refusalIn (consuming (l .receiver .buffer) len out .said) ∷ []
-refusals l (read-pieces limit out list) = refusalIn (consumingBytes (l .receiver .buffer) limit out list .said) ∷ []
-refusals l peek = refusalIn (peeking (l .receiver .buffer)) ∷ []
-refusals l (insert n) = refusalIn (insertPacketNumber (l .acked .state) (l .acked .cells) n .0) ∷ []
-refusals l (insert-range base count) = refusalIn (insertRange (l .acked .state) (l .acked .cells) base count .0) ∷ []
-refusals l consume-window = refusalIn (consume (l .acked .state) (l .acked .cells) .0) ∷ []
-refusals l reserve = refusalIn (reserving (l .sender .next)) ∷ []
+pub data Reads : Call → Type 0 where
+  reads : (len : ℕ) (out : List ℕ) → 0 < len → Reads (on-receiver (read len out))
+  reads-pieces : (limit : ℕ) (out list : List ℕ) → 0 < limit → Reads (on-receiver (read-pieces limit out list))
 
 -- "To empty" means until 8 with length or limit at least 1: the list ends by such a read
 pub record ToEmpty (l : Link) (calls : List Call) : Type 0 where
@@ -370,15 +431,15 @@ pub record Made-in (l : Link) (calls : List Call) (on : Link) (call : Call) : Ty
 pub record ReadsBack (parser : Parser) (datagram : List ℕ) (packets : List Packet) (index : List ℕ) : Type 0 where
   pub counts : parsing parser datagram index .0 ≡ answers (length packets)
   pub lists : listed datagram (parsing parser datagram index .1) (length packets) ≡ packets
-  pub indexes : indexed parser datagram index ≡ packets
+  pub indexes : (expected : ℕ) → indexed expected parser datagram index ≡ packets
 
 -- what an unrefused packing did: the packets that it adds to `made` stand end to end at the start of its output,
 -- and, where there are any, both parsers read these bytes back as them (ids have 32 bits, as every call's)
-pub record Wrote (l : Link) (src dst : ℕ) (out : List ℕ) (p : DataPacked) : Type 0 where
+pub record Wrote (d : SenderSide) (src dst : ℕ) (out : List ℕ) (p : DataPacked) : Type 0 where
   pub packets : List Packet
   pub counted : length packets ≡ p .packets
-  pub added : step l (pack src dst out) .sender .made ≡ l .sender .made ++ packets
-  pub written : take (p .bytes + 20 * p .packets) (packing byteLimit (l .sender .queue) (l .sender .next) src dst out .1) ≡ joined packets
+  pub added : callSender d (pack src dst out) .left .made ≡ d .made ++ packets
+  pub written : take (p .bytes + 20 * p .packets) (packingOf d src dst out .1) ≡ joined packets
   pub readBack : src < 2 ^ 32 → dst < 2 ^ 32 → 0 < p .packets
       → (parser : Parser) (index : List ℕ) → p .packets ≤ cellsIn index → ReadsBack parser (joined packets) packets index
 
@@ -395,7 +456,8 @@ pub record Stops (l : Link) (calls : List Call) : Type 0 where
   pub made : Made-in l calls on call
   pub stopped : In 8 (refusals on call) ⊎ In 10 (refusals on call)
 
-pub record Demand3 (s : ℕ) (first : Link) (calls : List Call) : Type 0 where
+-- what is delivered by the list
+pub record Delivers (s : ℕ) (first : Link) (calls : List Call) : Type 0 where
   -- the longest covered prefix: covered, longest, and a start of all bytes queued
   pub longest : List ℕ
   pub covered : Covered s (run first calls) longest
@@ -404,18 +466,25 @@ pub record Demand3 (s : ℕ) (first : Link) (calls : List Call) : Type 0 where
   -- "delivered bytes are a start of the longest covered prefix, equal to it when read to empty"
   pub delivers : Start (run first calls .receiver .delivered) longest
   pub toEmpty : ToEmpty first calls → run first calls .receiver .delivered ≡ longest
+  -- "which such reads reach unless refused with 10": enough further reads of length or limit at least 1 meet 8 or 10
+  pub enough : ℕ
+  pub reaches : (further : List Call) → All Reads further → enough < length further → Stops (run first calls) further
+
+-- what is taken and acknowledged
+pub record Acknowledges (s : ℕ) (first : Link) (calls : List Call) : Type 0 where
   -- "Taken: from s, as many numbers as the packets that the reads' answers count, each having left its slot": the front is the first not taken
   pub taken : run first calls .receiver .buffer .state .«front_number» ≡ s + run first calls .receiver .counted
   pub wasAccepted : (n : ℕ) → s ≤ n → n < s + run first calls .receiver .counted → member n (run first calls .receiver .accepted) ≡ true
   -- "the window never passes what was taken"
   pub notPast : run first calls .acked .expects ≤ s + run first calls .receiver .counted
   -- where the list ends by consuming the window, it expects the first number that has not entered
-  pub atConsume : (before : List Call) → calls ≡ before ++ (consume-window ∷ []) → ExpectsFirst s (run first calls .acked)
+  pub atConsume : (before : List Call) → calls ≡ before ++ (on-window consume-window ∷ []) → ExpectsFirst s (run first calls .acked)
+
+pub record Demand3 (s : ℕ) (first : Link) (calls : List Call) : Type 0 where
+  pub delivery : Delivers s first calls
+  pub acknowledgement : Acknowledges s first calls
   -- what was made is what was written: so of every packing of the list that is not refused
-  pub wrote : (on : Link) (src dst : ℕ) (out : List ℕ) (p : DataPacked) → Made-in first calls on (pack src dst out)
-      → packing byteLimit (on .sender .queue) (on .sender .next) src dst out .0 ≡ answers p → Wrote on src dst out p
+  pub wrote : (on : Link) (src dst : ℕ) (out : List ℕ) (p : DataPacked) → Made-in first calls on (on-sender (pack src dst out))
+      → packingOf (on .sender) src dst out .0 ≡ answers p → Wrote (on .sender) src dst out p
   -- no call of the list answers 12
   pub wellFormed : (on : Link) (call : Call) → Made-in first calls on call → In 12 (refusals on call) → ⊥
-  -- "which such reads reach unless refused with 10": enough further reads of length or limit at least 1 meet 8 or 10
-  pub enough : ℕ
-  pub reaches : (reads : List Call) → All Reads reads → enough < length reads → Stops (run first calls) reads
