@@ -15,10 +15,10 @@ oneOf n (x ∷ xs) = eqb n x || oneOf n xs
 
 -- no refusal, or one of these
 pub data Among (ns : List ℕ) (n : ℕ) : Type 0 where
-  is : oneOf n (0 ∷ ns) ≡ true → Among ns n
+  computes : oneOf n (0 ∷ ns) ≡ true → Among ns n
 
 pub never : {ns : List ℕ} {n : ℕ} (r : ℕ) → oneOf r (0 ∷ ns) ≡ false → Among ns n → n ≡ r → ⊥
-never r lacks (is h) e = true≢false (sym (rw e at h) ∙ lacks)
+never r lacks (computes h) e = true≢false (sym (rw e at h) ∙ lacks)
 
 -- the numbers of the checks, as `number` gives them, are among these
 abbrev pub listed : List ℕ → (ℕ → ℕ) → List (Bool × ℕ) → Bool
@@ -27,20 +27,20 @@ listed ns number (c ∷ cs) = oneOf (number (c .1)) (0 ∷ ns) && listed ns numb
 
 -- a list of checks comes to a number of theirs, or to that of what is left where none holds. A `cond` is a list of one check.
 module _ {A : Type 0} (says : A → ℕ) (refused : ℕ → A) where
-  pub among : {ns : List ℕ} (cs : List (Bool × ℕ)) {passed : A} → listed ns (λ n. says (refused n)) cs ≡ true → Among ns (says passed)
+  pub checks-among : {ns : List ℕ} (cs : List (Bool × ℕ)) {passed : A} → listed ns (λ n. says (refused n)) cs ≡ true → Among ns (says passed)
       → Among ns (says (checks cs refused passed))
-  among [] l h = h
-  among {ns} (c ∷ cs) {passed} l h =
+  checks-among [] l h = h
+  checks-among {ns} (c ∷ cs) {passed} l h =
       let all = and-eq-true-iff (oneOf (says (refused (c .1))) (0 ∷ ns)) (listed ns (λ n. says (refused n)) cs) .0 l in
-      by (c .0) (all .0) (among cs (all .1) h)
+      by (c .0) (all .0) (checks-among cs (all .1) h)
     where
       by : (t : Bool) → oneOf (says (refused (c .1))) (0 ∷ ns) ≡ true → Among ns (says (checks cs refused passed))
           → Among ns (says (cond t (refused (c .1)) (checks cs refused passed)))
-      by true q k = is q
+      by true q k = computes q
       by false q k = k
 
 -- the same of the number that is known to be refused with
 pub failed-among : {ns : List ℕ} (cs : List (Bool × ℕ)) {r : ℕ} → listed ns (λ n. n) cs ≡ true → Failed cs r → Among ns r
 failed-among [] l f = absurd f
-failed-among {ns} (c ∷ cs) l (inl (e, q)) = is (rw q at (and-eq-true-iff (oneOf (c .1) (0 ∷ ns)) (listed ns (λ n. n) cs) .0 l .0))
+failed-among {ns} (c ∷ cs) l (inl (e, q)) = computes (rw q at (and-eq-true-iff (oneOf (c .1) (0 ∷ ns)) (listed ns (λ n. n) cs) .0 l .0))
 failed-among {ns} (c ∷ cs) l (inr (e, f)) = failed-among cs (and-eq-true-iff (oneOf (c .1) (0 ∷ ns)) (listed ns (λ n. n) cs) .0 l .1) f
