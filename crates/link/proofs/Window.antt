@@ -11,11 +11,11 @@ use native.Mathlib.Omega.{arith}
 use lib.Dec.{ltb, leb}
 use borrow.Author.Tests.{ltb-true, ltb-false, le-leb, ne-eqb}
 use Rattle.refusal.specs.Said.{refusalIn}
-use Rattle.lists.specs.Numbers.{largest}
+use Rattle.lists.proofs.Tests.{both}
 use Rattle.window.specs.Window.{Outcome, expected, window, held, member, wellFormed, numbers, insertPacketNumber, beforeHeld, insertRange, consume}
 use Rattle.window.specs.declared.SlidingWindow.{SlidingWindow}
 use Rattle.ordered_bytes.specs.declared.OrderedBytes.{OrderedBytes}
-use Rattle.window.proofs.Rises.{both, not-below, well-formed}
+use Rattle.window.proofs.Rises.{bound, not-below, well-formed}
 use Rattle.window.proofs.Members.{among, member-append, member-numbers}
 use Rattle.window.proofs.Calls as calls
 use Rattle.receive.proofs.Twelve.{range-never}
@@ -47,7 +47,7 @@ held-above : (w : SlidingWindow) (cells : List ℕ) (n : ℕ) → wellFormed w c
 held-above w cells n h m = by (ltb n (expected w)) refl
   where
     by : (t : Bool) → ltb n (expected w) ≡ t → expected w ≤ n
-    by true q = absurd (false≢true (sym (not-below largest (expected w) n (held w cells) (well-formed w cells h .small) (ltb-true n (expected w) q)) ∙ m))
+    by true q = absurd (false≢true (sym (not-below (bound w) (expected w) n (held w cells) (well-formed w cells h .rises) (ltb-true n (expected w) q)) ∙ m))
     by false q = ltb-false n (expected w) q
 
 -- ---- a fresh window

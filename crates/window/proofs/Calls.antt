@@ -1,6 +1,6 @@
 -- What a call on a well-formed window says and which numbers are held after it; and that any list of calls keeps the window well formed.
 -- These are the laws that other crates cite. Assumes nothing.
-use Prim.Native.Nat.{ℕ, _+_, _-_, _≤_, _<_}
+use Prim.Native.Nat.{ℕ, zero, suc, _+_, _-_, _≤_, _<_}
 use mathlib.Core.Path.{_≡_, refl, sym, ap, _∙_}
 use mathlib.Core.Bool.{Bool, true, false, not, cond, _&&_, _||_}
 use mathlib.Core.List.{List, [], _∷_}
@@ -9,16 +9,18 @@ use mathlib.Core.Option.{Option, none, some}
 use native.Mathlib.Omega.{arith}
 use lib.ListN.{length}
 use lib.Dec.{ltb, leb, eqb}
-use borrow.Author.Tests.{ltb-true, ltb-false, leb-true, leb-false, le-ltb, eqb-true, eqb-false, not-true}
-use Rattle.refusal.specs.Said.{Said, answers, refuses, checks}
+use borrow.Author.Tests.{ltb-true, ltb-false, leb-true, leb-false, le-ltb, lt-leb, ne-eqb, eqb-true, eqb-false, not-true}
+use Rattle.refusal.specs.Said.{Said, answers, refuses, refusalIn, checks}
 use Rattle.refusal.proofs.Checks.{Passed, Failed, Checked, passes, fails, checked}
 use Rattle.lists.specs.Numbers.{largest}
+use Rattle.lists.proofs.Tests.{both}
 use Rattle.window.specs.declared.SlidingWindow.{SlidingWindow}
-use Rattle.window.specs.Window.{windowSize, Outcome, refused, expected, window, held, member, wellFormed}
-use Rattle.window.specs.Window.{storedCells, grown, insertChecks, insertPacketNumber, beforeHeld, rangeChecks, insertBefore, insertRange, runLength, consumedCells, advanced, consume}
-use Rattle.window.proofs.Rises.{WellFormed, both, well-formed, well-formed-is}
+use Rattle.window.specs.Window.{windowSize, Outcome, refused, expected, window, held, tooFew, member, wellFormed, storedCells, grown, beforeHeld, storedBefore, storeRun}
+use Rattle.window.specs.Window.{insertChecks, insertPacketNumber, rangeChecks, insertRange, runLength, consumedCells, advanced, consume}
+use Rattle.window.proofs.Rises.{bound, WellFormed, well-formed, well-formed-is}
+use Rattle.window.proofs.Loops.{stored-none}
 use Rattle.window.proofs.Members.{among, member-stored, before-free, before-within, before-held, run-held, run-ends, run-dropped}
-use Rattle.window.proofs.Kept.{held-stored, held-consumed, stored-keeps, consumed-keeps}
+use Rattle.window.proofs.Kept.{held-stored, held-consumed, length-stored-cells, length-consumed-cells, stored-keeps, consumed-keeps}
 
 -- a call that came to o leaves the window well formed
 abbrev pub Keeps : {A : Type 0} → Outcome A → Type 0
@@ -28,7 +30,13 @@ Keeps o = wellFormed (o .1) (o .2) ≡ true
 pub record Adds (w : SlidingWindow) (cells : List ℕ) (o : Outcome Unit) (b k : ℕ) : Type 0 where
   pub same : expected (o .1) ≡ expected w
   pub above : 0 < k → expected w ≤ b
+  pub long : length (o .2) ≡ length cells
   pub members : (n : ℕ) → member n (held (o .1) (o .2)) ≡ (among b k n || member n (held w cells))
+
+-- a call that came to o did not answer 12, and left as many cells
+pub record Fine {A : Type 0} (cells : List ℕ) (o : Outcome A) : Type 0 where
+  pub never : refusalIn (o .0) ≡ 12 → ⊥
+  pub long : length (o .2) ≡ length cells
 
 -- `insert_packet_number`: n is stored, or nothing has changed
 pub data Insertion (w : SlidingWindow) (cells : List ℕ) (n : ℕ) (o : Outcome Unit) : Type 0 where
@@ -60,12 +68,16 @@ not-refused n (c ∷ cs) l (inl (e, q)) = eqb-false (c .1) n (not-true _ (both (
 not-refused n (c ∷ cs) l (inr (e, f)) = not-refused n cs (both (not (eqb (c .1) n)) (lacks n cs) l .1) f
 
 module _ (w : SlidingWindow) (cells : List ℕ) (h : wellFormed w cells ≡ true) where
-  adds : (s : Said Unit) (b k : ℕ) → expected w ≤ b → Adds w cells (s, grown w k, storedCells w cells b k) b k
-  adds s b k low =
+  wf : WellFormed w cells
+  wf = well-formed w cells h
+
+  adds : (s : Said Unit) (b k : ℕ) → expected w ≤ b → w .count + k ≤ length cells → Adds w cells (s, grown w k, storedCells w cells b k) b k
+  adds s b k low room =
       record {
         same = refl;
         above = λ l. low;
-        members = λ n. ap (member n) (held-stored w cells (well-formed w cells h) b k) ∙ member-stored n b k (held w cells);
+        long = length-stored-cells w cells wf b k room;
+        members = λ n. ap (member n) (held-stored w cells wf b k) ∙ member-stored n b k (held w cells);
       }
 
   -- `insert_packet_number`
@@ -86,8 +98,8 @@ module _ (w : SlidingWindow) (cells : List ℕ) (h : wellFormed w cells ≡ true
       let new = p .1 .1 .1 .0 in
       let room = ltb-false (length cells) (w .count + 1) (p .1 .1 .1 .1 .0) in
       let q = one-free n new in
-      let keeps = stored-keeps w cells (well-formed w cells h) n 1 low (rw q (omega arith)) (rw q (omega arith)) (rw q room) in
-      (stores refl new (adds (answers tt) n 1 low), well-formed-is (grown w 1) (storedCells w cells n 1) (rw q at keeps))
+      let keeps = stored-keeps w cells wf n 1 low (rw q (omega arith)) (rw q room) in
+      (stores refl new (adds (answers tt) n 1 low room), well-formed-is (grown w 1) (storedCells w cells n 1) (rw q at keeps))
 
   insert-failed : (n r : ℕ) → Failed (insertChecks w cells n) r → Insertion w cells n (refused w cells r)
   insert-failed n r f = refusal r refl (λ q. not-refused 12 (insertChecks w cells n) refl (rw q at f))
@@ -103,51 +115,35 @@ module _ (w : SlidingWindow) (cells : List ℕ) (h : wellFormed w cells ≡ true
       by (fails r f q) = rw q (insert-failed n r f, h)
 
   -- `insert_range`
-  abbrev stopped : ℕ → ℕ → Bool → Outcome Unit
-  stopped base k t = (cond t (refuses 7) (answers tt), grown w k, storedCells w cells base k)
-
-  range-stored : (base count : ℕ) (t : Bool) → expected w ≤ base →
+  range-stored : (base count : ℕ) →
       let k = beforeHeld base count (held w cells) in
-      ltb k count ≡ t → RangeInsertion w cells base count (stopped base k t)
-  range-stored base count true low q =
+      expected w ≤ base → w .count + k ≤ length cells → (t : Bool) → ltb k count ≡ t
+      → RangeInsertion w cells base count (cond t (refuses 7) (answers tt), grown w k, storedCells w cells base k)
+  range-stored base count low room true q =
       let k = beforeHeld base count (held w cells) in
       let l = ltb-true k count q in
-      stops k l refl (λ i m. before-free base count i (held w cells) m) (before-held base count (held w cells) l) (adds (refuses 7) base k low)
-  range-stored base count false low q =
+      stops k l refl (λ i m. before-free base count i (held w cells) m) (before-held base count (held w cells) l) (adds (refuses 7) base k low room)
+  range-stored base count low room false q =
       let l = ltb-false (beforeHeld base count (held w cells)) count q in
       let m = before-within base count (held w cells) in
       let all : beforeHeld base count (held w cells) ≡ count = omega arith in
-      rw all (stores refl (λ i n. before-free base count i (held w cells) (rw all n)) (adds (answers tt) base count low))
+      rw all (stores refl (λ i n. before-free base count i (held w cells) (rw all n)) (adds (answers tt) base count low (rw all at room)))
 
-  range-passed : (base count : ℕ) → (count ≡ 0 → ⊥) →
-      let k = beforeHeld base count (held w cells) in
-      Passed (rangeChecks w cells base count k) → WellFormed (grown w k) (storedCells w cells base k)
-  range-passed base count any p =
-      let k = beforeHeld base count (held w cells) in
-      let low = ltb-false base (expected w) (p .0) in
-      let small = ltb-false largest (base + count) (p .1 .0) in
-      let near = leb-false windowSize (base + count - 1 - expected w) (p .1 .1 .0) in
-      let room = ltb-false (length cells) (w .count + k) (p .1 .1 .1 .0) in
-      let within = before-within base count (held w cells) in
-      stored-keeps w cells (well-formed w cells h) base count low (omega arith) (omega arith) room
-
-  range-some : (base count : ℕ) → (count ≡ 0 → ⊥) →
-      let o = insertBefore w cells base count (beforeHeld base count (held w cells)) in
-      RangeInsertion w cells base count o × Keeps o
-  range-some base count any =
-      let k = beforeHeld base count (held w cells) in
-      by (checked (refused w cells) (stopped base k (ltb k count)) (rangeChecks w cells base count k))
+  run-law : (base count : ℕ) → expected w ≤ base → base + count ≤ bound w → let o = storeRun w cells base count in RangeInsertion w cells base count o × Keeps o
+  run-law base count low near = by (tooFew w cells (beforeHeld base count (held w cells))) refl
     where
-      by : let k = beforeHeld base count (held w cells) in
-          Checked (rangeChecks w cells base count k) (refused w cells) (stopped base k (ltb k count)) →
-          let o = insertBefore w cells base count k in
-          RangeInsertion w cells base count o × Keeps o
-      by (passes p q) =
+      by : (t : Bool) →
           let k = beforeHeld base count (held w cells) in
-          rw q (range-stored base count (ltb k count) (ltb-false base (expected w) (p .0)) refl, well-formed-is (grown w k) (storedCells w cells base k) (range-passed base count any p))
-      by (fails r f q) =
-          let cs = rangeChecks w cells base count (beforeHeld base count (held w cells)) in
-          rw q (refusal r refl (λ e. not-refused 7 cs refl (rw e at f)) (λ e. not-refused 12 cs refl (rw e at f)), h)
+          tooFew w cells k ≡ t →
+          let o = checks ((t, 10) ∷ []) (refused w cells) (storedBefore w cells base count k) in
+          RangeInsertion w cells base count o × Keeps o
+      by true q = (refusal 10 refl (λ e. omega arith) (λ e. omega arith), h)
+      by false q =
+          let k = beforeHeld base count (held w cells) in
+          let room = ltb-false (length cells) (w .count + k) q in
+          let within = before-within base count (held w cells) in
+          let keeps = stored-keeps w cells wf base count low (omega arith) room in
+          (range-stored base count low room (ltb k count) refl, well-formed-is (grown w k) (storedCells w cells base k) keeps)
 
   pub range-law : (base count : ℕ) → let o = insertRange w cells base count in RangeInsertion w cells base count o × Keeps o
   unfolding insertRange
@@ -157,15 +153,36 @@ module _ (w : SlidingWindow) (cells : List ℕ) (h : wellFormed w cells ≡ true
       none-among n true q = let l = leb-true base n q in rw (le-ltb n (base + 0) (omega arith))
       none-among n false q = refl
 
+      past : Checked (rangeChecks w base count) (refused w cells) (storeRun w cells base count) → (count ≡ 0 → ⊥) →
+          let o = checks (rangeChecks w base count) (refused w cells) (storeRun w cells base count) in
+          RangeInsertion w cells base count o × Keeps o
+      past (passes p q) any =
+          let small = ltb-false largest (base + count) (p .1 .0) in
+          let near = leb-false windowSize (base + count - 1 - expected w) (p .1 .1 .0) in
+          rw q (run-law base count (ltb-false base (expected w) (p .0)) (omega arith))
+      past (fails r f q) any =
+          let cs = rangeChecks w base count in
+          rw q (refusal r refl (λ e. not-refused 7 cs refl (rw e at f)) (λ e. not-refused 12 cs refl (rw e at f)), h)
+
       by : (t : Bool) → eqb count 0 ≡ t →
-          let o : Outcome Unit = cond t (answers tt, w, cells) (insertBefore w cells base count (beforeHeld base count (held w cells))) in
+          let o : Outcome Unit = cond t (answers tt, w, cells) (checks (rangeChecks w base count) (refused w cells) (storeRun w cells base count)) in
           RangeInsertion w cells base count o × Keeps o
       by true q =
           let z = eqb-true count 0 q in
           let adds-none : Adds w cells (answers tt, w, cells) base count =
-          record { same = refl; above = λ l. absurd (omega arith); members = λ n. rw z (none-among n (leb base n) refl) } in
+          record { same = refl; above = λ l. absurd (omega arith); long = refl; members = λ n. rw z (none-among n (leb base n) refl) } in
           (stores refl (λ i l. absurd (omega arith)) adds-none, h)
-      by false q = range-some base count (eqb-false count 0 q)
+      by false q = past (checked (refused w cells) (storeRun w cells base count) (rangeChecks w base count)) (eqb-false count 0 q)
+
+  -- a range of numbers that the window may hold, with a cell for each that is stored, is refused with nothing but 7
+  pub range-is : (base count : ℕ) → expected w ≤ base → base + count ≤ bound w →
+      let k = beforeHeld base count (held w cells) in
+      w .count + k ≤ length cells → insertRange w cells base count ≡ storedBefore w cells base count k
+  unfolding insertRange beforeHeld
+  range-is base zero low near room = rw h (ap (λ (s : SlidingWindow × List ℕ). (answers tt, s .0, s .1)) (sym (stored-none w cells base)))
+  range-is base (suc c) low near room =
+      rw (h, ne-eqb (suc c) 0 (λ q. omega arith), le-ltb base (expected w) low, le-ltb largest (base + suc c) (omega arith))
+      (rw (lt-leb windowSize (base + suc c - 1 - expected w) (omega arith), le-ltb (length cells) (w .count + beforeHeld base (suc c) (held w cells)) room))
 
   -- `consume`
   pub consume-law : let o = consume w cells in Consumption w cells o × Keeps o
@@ -183,21 +200,47 @@ module _ (w : SlidingWindow) (cells : List ℕ) (h : wellFormed w cells ≡ true
           Consumption w cells o × Keeps o
       by true q =
           let z : e + k ≡ e = let y = eqb-true k 0 q in omega arith in
-          (nothing refl (rw z at (run-ends largest e (held w cells) (well-formed w cells h .small))), h)
+          (nothing refl (rw z at (run-ends (bound w) e (held w cells) (wf .rises))), h)
       by false q =
           let d = eqb-false k 0 q in
-          let wf = well-formed w cells h in
           let z : e + k - 1 + 1 ≡ e + k = omega arith in (
             run (e + k - 1) k refl (omega arith) z (sym z)
                 (λ n l m. run-held e n (held w cells) l (omega arith))
-                (rw z (run-ends largest e (held w cells) (wf .small)))
-                (λ n. rw z (ap (member n) (held-consumed w cells wf k) ∙ run-dropped largest e n (held w cells) (wf .small))),
+                (rw z (run-ends (bound w) e (held w cells) (wf .rises)))
+                (λ n. rw z (ap (member n) (held-consumed w cells wf k) ∙ run-dropped (bound w) e n (held w cells) (wf .rises))),
             well-formed-is (advanced w k) (consumedCells w cells k) (consumed-keeps w cells wf),
           )
 
+  -- no call answers 12, or changes the number of cells
+  pub insert-fine : (n : ℕ) → Fine cells (insertPacketNumber w cells n)
+  insert-fine n = by (insertPacketNumber w cells n) (insert-law n .0)
+    where
+      by : (o : Outcome Unit) → Insertion w cells n o → Fine cells o
+      by o (stores q new a) = record { never = λ e. omega (arith, rw q at e); long = a .long }
+      by o (refusal r q not-12) = rw q record { never = not-12; long = refl }
+
+  pub range-fine : (base count : ℕ) → Fine cells (insertRange w cells base count)
+  range-fine base count = by (insertRange w cells base count) (range-law base count .0)
+    where
+      by : (o : Outcome Unit) → RangeInsertion w cells base count o → Fine cells o
+      by o (stores q free a) = record { never = λ e. omega (arith, rw q at e); long = a .long }
+      by o (stops k u q free m a) = record { never = λ e. omega (arith, rw q at e); long = a .long }
+      by o (refusal r q not-7 not-12) = rw q record { never = not-12; long = refl }
+
+  pub consume-fine : Fine cells (consume w cells)
+  unfolding consume
+  consume-fine = rw h (by (eqb (runLength (expected w) (held w cells)) 0))
+    where
+      by : (t : Bool) →
+          let k = runLength (expected w) (held w cells) in
+          let o : Outcome (Option (ℕ × ℕ)) = cond t (answers none, w, cells) (answers (some (expected w + k - 1, k)), advanced w k, consumedCells w cells k) in
+          Fine cells o
+      by true = record { never = λ e. omega arith; long = refl }
+      by false = record { never = λ e. omega arith; long = length-consumed-cells w cells wf }
+
 -- a new window is well formed on any cells, and holds nothing
 pub new-well-formed : (s : ℕ) (cells : List ℕ) → wellFormed (window s 0) cells ≡ true
-new-well-formed s cells = well-formed-is (window s 0) cells (record { fits = omega arith; near = tt; small = tt })
+new-well-formed s cells = well-formed-is (window s 0) cells (record { fits = omega arith; rises = tt })
 
 pub new-empty : (s n : ℕ) (cells : List ℕ) → member n (held (window s 0) cells) ≡ false
 unfolding member

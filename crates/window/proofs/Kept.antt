@@ -5,14 +5,14 @@ use mathlib.Core.Path.{_≡_, refl, sym, ap, _∙_}
 use mathlib.Core.Bool.{Bool, true, false, cond, true≢false}
 use mathlib.Core.List.{List, [], _∷_, _++_, append-assoc}
 use native.Mathlib.Omega.{arith}
-use lib.ListN.{length, take, drop, getD, replicate, length-append, length-drop, take-append-drop}
+use lib.ListN.{length, take, drop, getD, replicate, length-append, length-drop, length-replicate, take-append-drop}
 use lib.Seq.{length-take-le, take-at}
 use lib.Dec.{ltb, eqb}
 use borrow.Author.Tests.{ltb-true, ltb-false, eqb-true}
-use Rattle.lists.specs.Numbers.{largest}
+use Rattle.lists.proofs.Order.{either}
 use Rattle.window.specs.declared.SlidingWindow.{SlidingWindow}
-use Rattle.window.specs.Window.{windowSize, expected, held, place, numbers, stored, storedCells, grown, beforeHeld, runLength, consumedCells, advanced}
-use Rattle.window.proofs.Rises.{Rises, WellFormed, is-member, place-from}
+use Rattle.window.specs.Window.{expected, held, place, numbers, stored, storedCells, grown, beforeHeld, runLength, consumedCells, advanced}
+use Rattle.window.proofs.Rises.{Rises, bound, WellFormed, is-member, place-from}
 use Rattle.window.proofs.Loops.{length-numbers}
 use Rattle.window.proofs.Members.{before-free}
 
@@ -56,21 +56,20 @@ module _ (hi : ℕ) where
 
 -- the numbers before the first held one stand below the one at their place
 before-below : (b k : ℕ) (xs : List ℕ) → place b xs < length xs → b + beforeHeld b k xs ≤ getD xs (place b xs) 0
-before-below b k xs h = by (ltb y (b + beforeHeld b k xs)) refl
+before-below b k xs h =
+    let y = getD xs (place b xs) 0 in
+    let from = place-from b xs h in
+    either (b + beforeHeld b k xs) y (λ l. l)
+    (λ l. let z : b + (y - b) ≡ y = omega arith in absurd (true≢false (sym (is-member y (place b xs) xs h refl) ∙ rw z at (before-free b k (y - b) xs (omega arith)))))
+
+run-within : (e : ℕ) (xs : List ℕ) → runLength e xs ≤ length xs
+unfolding runLength
+run-within e [] = zero-le
+run-within e (x ∷ xs) = by (eqb x e) (run-within (suc e) xs)
   where
-    y : ℕ
-    y = getD xs (place b xs) 0
-
-    from : b ≤ y
-    from = place-from b xs h
-
-    by : (t : Bool) → ltb y (b + beforeHeld b k xs) ≡ t → b + beforeHeld b k xs ≤ y
-    by true q =
-        let l = ltb-true y (b + beforeHeld b k xs) q in
-        let m = from in
-        let z : b + (y - b) ≡ y = omega arith in
-        absurd (true≢false (sym (is-member y (place b xs) xs h refl) ∙ rw z at (before-free b k (y - b) xs (omega arith))))
-    by false q = ltb-false y (b + beforeHeld b k xs) q
+    by : (t : Bool) → runLength (suc e) xs ≤ length xs → cond t (suc (runLength (suc e) xs)) zero ≤ suc (length xs)
+    by true h = suc-le-suc h
+    by false h = zero-le
 
 -- the numbers held afterwards: those in front of the cells that stay
 length-stored : (b k : ℕ) (xs : List ℕ) → length (stored b k xs) ≡ length xs + k
@@ -92,24 +91,30 @@ module _ (w : SlidingWindow) (cells : List ℕ) (h : WellFormed w cells) where
       ap (take (w .count - k)) (append-assoc rest (replicate k 0) (drop (w .count) cells))
       ∙ take-at rest (replicate k 0 ++ drop (w .count) cells) (w .count - k) (length-drop k (held w cells) ∙ rw length-held)
 
+  pub length-stored-cells : (b k : ℕ) → w .count + k ≤ length cells → length (storedCells w cells b k) ≡ length cells
+  length-stored-cells b k room = rw (length-append (stored b k (held w cells)), length-stored b k (held w cells), length-held, length-drop) (omega arith)
+
   pub stored-keeps : (b n : ℕ) →
       let k = beforeHeld b n (held w cells) in
-      expected w ≤ b → b + k ≤ expected w + windowSize → b + k ≤ largest → w .count + k ≤ length cells → WellFormed (grown w k) (storedCells w cells b k)
-  stored-keeps b n l near small room =
+      expected w ≤ b → b + k ≤ bound w → w .count + k ≤ length cells → WellFormed (grown w k) (storedCells w cells b k)
+  stored-keeps b n l near room =
       let k = beforeHeld b n (held w cells) in
       record {
-        fits = rw (length-append, length-stored b k (held w cells), length-held) (omega arith);
-        near = rw (held-stored b k) (rises-stored (expected w + windowSize) (expected w) b k (held w cells) (h .near) l near (before-below b n (held w cells)));
-        small = rw (held-stored b k) (rises-stored largest (expected w) b k (held w cells) (h .small) l small (before-below b n (held w cells)));
+        fits = rw (length-stored-cells b k room) room;
+        rises = rw (held-stored b k) (rises-stored (bound w) (expected w) b k (held w cells) (h .rises) l near (before-below b n (held w cells)));
       }
+
+  pub length-consumed-cells : length (consumedCells w cells (runLength (expected w) (held w cells))) ≡ length cells
+  length-consumed-cells =
+      let l = run-within (expected w) (held w cells) in
+      let f = h .fits in
+      simp (length-append, length-drop, length-replicate, length-held) (omega (arith, length-held))
 
   pub consumed-keeps : let k = runLength (expected w) (held w cells) in WellFormed (advanced w k) (consumedCells w cells k)
   consumed-keeps =
       let e = expected w in
       let k = runLength e (held w cells) in
-      let wider = rises-wider (e + windowSize) (e + k) (e + k + windowSize) (drop k (held w cells)) (omega arith) (rises-dropped (e + windowSize) e (held w cells) (h .near)) in
       record {
-        fits = simp (length-append, length-drop, length-held) (omega arith);
-        near = rw (held-consumed k) wider;
-        small = rw (held-consumed k) (rises-dropped largest e (held w cells) (h .small));
+        fits = rw length-consumed-cells (omega arith);
+        rises = rw (held-consumed k) (rises-wider (bound w) (e + k) (bound (advanced w k)) (drop k (held w cells)) (omega arith) (rises-dropped (bound w) e (held w cells) (h .rises)));
       }

@@ -2,75 +2,31 @@
 -- Assumes nothing.
 use Prim.Native.Nat.{ℕ, zero, suc, _+_, _-_, _≤_, _<_, zero-le}
 use mathlib.Core.Path.{_≡_, refl, sym, ap, _∙_}
-use mathlib.Core.Bool.{Bool, true, false, cond, _&&_, and-assoc, and-self, and-true, and-false}
-use mathlib.Core.List.{List, [], _∷_, _++_, append-assoc}
+use mathlib.Core.Bool.{Bool, true, false, cond, _&&_, and-self, and-true, and-false}
+use mathlib.Core.List.{List, [], _∷_, _++_, append-assoc, append-nil}
 use native.Mathlib.Nat.{le-of-suc-le-suc, not-suc-le-zero}
 use native.Mathlib.Numerals.{add-one}
 use native.Mathlib.Omega.{arith}
-use lib.ListN.{length, take, drop, getD, set, replicate, length-drop, drop-of-length-le, length-replicate, getD-replicate}
-use lib.Seq.{paste, length-take-le, drop-cons, getD-take, take-take, take-length, drop-drop, paste-suc, take-paste, drop-paste}
+use lib.ListN.{length, take, drop, getD, set, replicate, length-drop, length-replicate, take-append-drop}
+use lib.Seq.{paste, length-take-le, getD-take, take-take, take-length, drop-drop, paste-suc, take-paste, drop-paste, slice-empty, slice-cons}
 use lib.Dec.{ltb, eqb}
-use borrow.Author.Tests.{le-ltb, ltb-true, ltb-false, eqb-true}
+use borrow.Author.Tests.{lt-ltb, le-ltb, ltb-true, eqb-true}
+use Rattle.refusal.specs.Said.{answers, refuses, refusalIn, checks}
 use Rattle.lists.specs.Numbers.{largest}
+use Rattle.lists.proofs.Tests.{both}
+use Rattle.lists.proofs.Rising.{first-last}
 use Rattle.lists.proofs.Shift.{drop-take, take-before-paste, drop-at-paste}
 use Rattle.window.specs.declared.SlidingWindow.{SlidingWindow}
-use Rattle.window.specs.Window.{expected, held, wellFormed, member, rising, holdable, allHoldable, place, numbers, stored, beforeHeld, runLength}
-use Rattle.window.proofs.Rises.{Rises, well-formed, is-holdable, holdable-is, both, is-member, not-before, place-from}
-
--- the held numbers from i on: the one in cell i, and those from i + 1 on ..
-held-cons : (cells : List ℕ) (count i : ℕ) → i < count → count ≤ length cells
-    → drop i (take count cells) ≡ getD cells i 0 ∷ drop (i + 1) (take count cells)
-held-cons cells count i h k =
-    let l : i < length (take count cells) = rw length-take-le (omega arith) in
-    rw (add-one, drop-cons (take count cells) i 0, getD-take)
-
--- .. and from count on none
-held-nil : (cells : List ℕ) (count i : ℕ) → count ≤ i → count ≤ length cells → drop i (take count cells) ≡ []
-held-nil cells count i h k = drop-of-length-le (take count cells) {i = i} (rw (length-take-le count cells k) h)
-
--- `is_rising_from`
-pub rising-at : (cells : List ℕ) (count i : ℕ) → i + 1 < count → count ≤ length cells
-    → rising (drop i (take count cells)) ≡ (ltb (getD cells i 0) (getD cells (i + 1) 0) && rising (drop (i + 1) (take count cells)))
-unfolding rising
-rising-at cells count i h k = rw (held-cons cells count i (omega arith) k, held-cons cells count (i + 1) h k)
-
-pub rising-end : (cells : List ℕ) (count i : ℕ) → i ≤ count → count ≤ i + 1 → count ≤ length cells → rising (drop i (take count cells)) ≡ true
-unfolding rising
-rising-end cells count i l h k = by (ltb i count) refl
-  where
-    by : (b : Bool) → ltb i count ≡ b → rising (drop i (take count cells)) ≡ true
-    by true t = rw (held-cons cells count i (ltb-true i count t) k, held-nil cells count (i + 1) h k)
-    by false t = let m = ltb-false i count t in rw (held-nil cells count i m k)
-
--- `is_rising`
-pub rising-five : (cells : List ℕ) (count i : ℕ) (five : Bool) → i + 4 < count → count ≤ length cells
-    → five ≡ (ltb (getD cells i 0) (getD cells (i + 1) 0) && ltb (getD cells (i + 1) 0) (getD cells (i + 2) 0)
-    && ltb (getD cells (i + 2) 0) (getD cells (i + 3) 0) && ltb (getD cells (i + 3) 0) (getD cells (i + 4) 0))
-    → rising (drop i (take count cells)) ≡ (five && rising (drop (i + 4) (take count cells)))
-rising-five cells count i five h k q =
-    let e₂ : i + 1 + 1 ≡ i + 2 = omega arith in
-    let e₃ : i + 2 + 1 ≡ i + 3 = omega arith in
-    let e₄ : i + 3 + 1 ≡ i + 4 = omega arith in
-    let t₂ = rw e₂ at (rising-at cells count (i + 1) (omega arith) k) in
-    let t₃ = rw e₃ at (rising-at cells count (i + 2) (omega arith) k) in
-    let t₄ = rw e₄ at (rising-at cells count (i + 3) (omega arith) k) in
-    rw (rising-at cells count i (omega arith) k, t₂, t₃, t₄, q) (simp and-assoc)
+use Rattle.window.specs.Window.{Outcome, refused, expected, held, tooFew, wellFormed, member, rising, holdable, allHoldable, place, numbers, stored}
+use Rattle.window.specs.Window.{storedCells, grown, beforeHeld, storeBefore, storeRun, runLength}
+use Rattle.window.proofs.Rises.{Rises, bound, WellFormed, well-formed, is-holdable, holdable-is, is-member, not-before, place-from}
 
 -- `well_formed`: rising numbers may all be held where the first and the last may
 between : (w : SlidingWindow) (x y z : ℕ) → x ≤ y → y ≤ z → holdable w x ≡ true → holdable w z ≡ true → holdable w y ≡ true
 between w x y z l m a b =
     let h = is-holdable w x a in
     let k = is-holdable w z b in
-    holdable-is w y (record { above = omega arith; near = omega arith; small = omega arith })
-
-first-last : (x : ℕ) (xs : List ℕ) → rising (x ∷ xs) ≡ true → x ≤ getD (x ∷ xs) (length xs) 0
-unfolding rising
-first-last x [] r = omega arith
-first-last x (y ∷ ys) r =
-    let up = both (ltb x y) (rising (y ∷ ys)) r in
-    let l = ltb-true x y (up .0) in
-    let m = first-last y ys (up .1) in
-    omega arith
+    holdable-is w y (omega arith) (omega arith)
 
 ends : (w : SlidingWindow) (x : ℕ) (xs : List ℕ) → rising (x ∷ xs) ≡ true
     → allHoldable w (x ∷ xs) ≡ (holdable w x && holdable w (getD (x ∷ xs) (length xs) 0))
@@ -79,7 +35,7 @@ ends w x [] r = and-true (holdable w x) ∙ sym (and-self (holdable w x))
 ends w x (y ∷ ys) r =
     let up = both (ltb x y) (rising (y ∷ ys)) r in
     let l = ltb-true x y (up .0) in
-    rw (ends w y ys (up .1)) (by (holdable w x) refl (holdable w z) refl (λ a b. between w x y z (omega arith) (first-last y ys (up .1)) a b))
+    rw (ends w y ys (up .1)) (by (holdable w x) refl (holdable w z) refl (between w x y z (omega arith) (first-last y ys (up .1))))
   where
     z : ℕ
     z = getD (y ∷ ys) (length ys) 0
@@ -111,53 +67,41 @@ place-back n i cells h k l =
     let q : suc (i - 1) ≡ i = omega arith in
     rw q at (place-suc n (i - 1) cells (omega arith) l)
 
--- `first_held`: the cell at a number's place, and what is held or not by what stands there
+-- `first_held`: how many numbers stand before the first held one, told by that one ..
+pub before-is : (b k count : ℕ) (xs : List ℕ) → k ≤ count → ((i : ℕ) → i < k → member (b + i) xs ≡ false) → (k < count → member (b + k) xs ≡ true) → beforeHeld b count xs ≡ k
+unfolding beforeHeld
+before-is b k zero xs l f m = omega arith
+before-is b zero (suc c) xs l f m = let z : b + 0 ≡ b = omega arith in rw (rw z at (m (omega arith)))
+before-is b (suc k) (suc c) xs l f m =
+    let z : b + 0 ≡ b = omega arith in
+    let up : (i : ℕ) → b + suc i ≡ suc b + i = λ i. omega arith in
+    rw (rw z at (f 0 (omega arith)))
+    (ap suc (before-is (suc b) k c xs (le-of-suc-le-suc l) (λ i h. rw (up i) at (f (suc i) (omega arith))) (λ h. rw (up k) at (m (omega arith)))))
+
+-- .. which stands in the cell at base's place, if there is one
 pub place-cell : (b count at : ℕ) (cells : List ℕ) → count ≤ length cells → at ≡ place b (take count cells) → at < count → b ≤ getD cells at 0
 place-cell b count at cells k q h =
     let l : place b (take count cells) < length (take count cells) = rw (length-take-le count cells k, ← q) h in
     rw (← q, getD-take count cells at 0 h) at (place-from b (take count cells) l)
 
-pub held-cell : (n count at : ℕ) (cells : List ℕ) → count ≤ length cells → at < count → getD cells at 0 ≡ n → member n (take count cells) ≡ true
-held-cell n count at cells k h q = is-member n at (take count cells) (rw (length-take-le count cells k) h) (getD-take count cells at 0 h ∙ q)
-
-pub not-held-cell : (lo hi b n count at : ℕ) (cells : List ℕ) → Rises lo hi (take count cells) → count ≤ length cells → at ≡ place b (take count cells) → b ≤ n
-    → (at < count → n < getD cells at 0) → member n (take count cells) ≡ false
-not-held-cell lo hi b n count at cells r k q l f =
-    not-before hi lo b n (take count cells) r l
-    (λ p. let h : at < count = rw (length-take-le count cells k, ← q) at p in rw (← q, getD-take count cells at 0 h) (f h))
-
-pub before-at : (b n i : ℕ) (xs : List ℕ) → i < n → beforeHeld b (n - i) xs ≡ cond (member b xs) 0 (beforeHeld (b + 1) (n - (i + 1)) xs + 1)
-unfolding beforeHeld
-before-at b n i xs h =
-    let q : n - i ≡ suc (n - (i + 1)) = omega arith in
-    rw (q, add-one b, add-one (beforeHeld (suc b) (n - (i + 1)) xs))
-
--- .. of one number
-pub one-held : (n : ℕ) (xs : List ℕ) → beforeHeld n 1 xs ≡ 0 → member n xs ≡ true
-unfolding beforeHeld
-one-held n xs h = by (member n xs) h
-  where
-    by : (t : Bool) → _≡_ {A = ℕ} (cond t 0 1) 0 → t ≡ true
-    by true q = refl
-    by false q = absurd (omega arith)
-
-pub one-free : (n : ℕ) (xs : List ℕ) → (beforeHeld n 1 xs ≡ 0 → ⊥) → member n xs ≡ false
-unfolding beforeHeld
-one-free n xs h = by (member n xs) h
-  where
-    by : (t : Bool) → (_≡_ {A = ℕ} (cond t 0 1) 0 → ⊥) → t ≡ false
-    by true q = absurd (q refl)
-    by false q = refl
+pub before-cell : (w : SlidingWindow) (cells : List ℕ) (b range at i : ℕ) → WellFormed w cells → at ≡ place b (held w cells) → i ≤ range
+    → (at < w .count → b + i ≤ getD cells at 0) → (i < range → (at < w .count) × (getD cells at 0 ≡ b + i)) → i ≡ beforeHeld b range (held w cells)
+before-cell w cells b range at i wf q l f m =
+    let long = length-take-le (w .count) cells (wf .fits) in
+    sym (before-is b i range (held w cells) l
+    (λ j h. not-before (bound w) (expected w) b (b + j) (held w cells) (wf .rises) (omega arith)
+    (λ p. let u : at < w .count = rw (long, ← q) at p in rw (← q, getD-take (w .count) cells at 0 u) (let g = f u in omega arith)))
+    (λ h. let u = m h in is-member (b + i) at (held w cells) (rw long (u .0)) (getD-take (w .count) cells at 0 (u .0) ∙ u .1)))
 
 -- `run_length`
 pub run-at : (e : ℕ) (cells : List ℕ) (count i : ℕ) → i < count → count ≤ length cells
     → runLength e (drop i (take count cells)) ≡ cond (eqb (getD cells i 0) e) (runLength (e + 1) (drop (i + 1) (take count cells)) + 1) 0
 unfolding runLength
-run-at e cells count i h k = rw (held-cons cells count i h k, add-one e, add-one (runLength (suc e) (drop (i + 1) (take count cells))))
+run-at e cells count i h k = rw (add-one i, slice-cons i count cells 0 h k, add-one e, add-one (runLength (suc e) (drop (suc i) (take count cells))))
 
-pub run-end : (e : ℕ) (cells : List ℕ) (count i : ℕ) → count ≤ i → count ≤ length cells → runLength e (drop i (take count cells)) ≡ 0
+pub run-end : (e : ℕ) (cells : List ℕ) (count : ℕ) → runLength e (drop count (take count cells)) ≡ 0
 unfolding runLength
-run-end e cells count i h k = rw (held-nil cells count i h k)
+run-end e cells count = rw (slice-empty count cells)
 
 -- .. after which there is a number of 64 bits
 run-below : (lo hi m : ℕ) (xs : List ℕ) → Rises lo hi xs → m ≤ hi → m + runLength m xs ≤ hi
@@ -174,7 +118,7 @@ run-below lo hi m (x ∷ xs) r h = by (run-below (suc x) hi (suc m) xs (r .2)) (
 
 pub run-fits : (w : SlidingWindow) (cells : List ℕ) → wellFormed w cells ≡ true → expected w ≤ largest
     → expected w + runLength (expected w) (held w cells) ≤ largest
-run-fits w cells h l = run-below (expected w) largest (expected w) (held w cells) (well-formed w cells h .small) l
+run-fits w cells h l = let k = run-below (expected w) (bound w) (expected w) (held w cells) (well-formed w cells h .rises) (omega arith) in omega arith
 
 -- `fill`
 pub length-numbers : (b k : ℕ) → length (numbers b k) ≡ k
@@ -188,15 +132,9 @@ getD-numbers b zero i h = absurd (not-suc-le-zero h)
 getD-numbers b (suc k) zero h = omega arith
 getD-numbers b (suc k) (suc i) h = getD-numbers (suc b) k i (le-of-suc-le-suc h) ∙ omega arith
 
-pub fill-at : (d : List ℕ) (at b k i : ℕ) → i < k → at + k ≤ length d → set (paste d at (numbers b k) i) (at + i) (b + i) ≡ paste d at (numbers b k) (i + 1)
-fill-at d at b k i h l =
-    rw (add-one i) (rw (getD-numbers b k i h) at (paste-suc d at (numbers b k) i 0 (omega arith) (rw (length-numbers b k) h)))
-
--- `clear`
-pub clear-at : (d : List ℕ) (at k i : ℕ) → i < k → at + k ≤ length d → set (paste d at (replicate k 0) i) (at + i) 0 ≡ paste d at (replicate k 0) (i + 1)
-clear-at d at k i h l =
-    let zeros : List ℕ = replicate k 0 in
-    rw (add-one i) (rw (getD-replicate {A = ℕ} k i 0 0 h) at (paste-suc d at zeros i 0 (omega arith) (rw (length-replicate {A = ℕ} k 0) h)))
+-- `fill` and `clear`: one more of s's numbers written
+pub write-at : (d s : List ℕ) (at k i x : ℕ) → length s ≡ k → getD s i 0 ≡ x → i < k → at + k ≤ length d → set (paste d at s i) (at + i) x ≡ paste d at s (i + 1)
+write-at d s at k i x l q h m = rw (add-one i, ← q) (paste-suc d at s i 0 (omega arith) (omega arith))
 
 -- `shift_up`, then `fill`: k numbers stored at b's place
 pub stored-is : (cells shifted left : List ℕ) (b k count at : ℕ) → at ≡ place b (take count cells) → at ≤ count → count + k ≤ length cells
@@ -209,6 +147,42 @@ stored-is cells shifted left b k count at q h l s t =
     let back = drop-at-paste cells (drop at cells) (at + k) (count - at) (omega arith) in
     rw (t, s, front, back, e, all, ← q, take-take at count cells h, drop-take at count cells)
     (sym (append-assoc (take at cells ++ numbers b k) (take (count - at) (drop at cells)) (drop (count + k) cells)))
+
+-- no number stored changes nothing
+pub stored-none : (w : SlidingWindow) (cells : List ℕ) (b : ℕ) → _≡_ {A = SlidingWindow × List ℕ} (grown w 0, storedCells w cells b 0) (w, cells)
+unfolding numbers
+stored-none w cells b =
+    let z : w .count + 0 ≡ w .count = omega arith in
+    let p = place b (held w cells) in
+    rw (z, append-nil (take p (held w cells)), take-append-drop p (held w cells), take-append-drop (w .count) cells)
+
+pub run-none : (w : SlidingWindow) (cells : List ℕ) (b count : ℕ) → w .count ≤ length cells → 0 < count → storeBefore w cells b count 0 ≡ refused w cells 7
+run-none w cells b count h l =
+    rw (le-ltb (length cells) (w .count + 0) (omega arith), lt-ltb 0 count l)
+    (ap (λ (s : SlidingWindow × List ℕ). (refuses 7, s .0, s .1)) (stored-none w cells b))
+
+-- a run of one number: 7 where it is held, 10 where there is no cell
+abbrev pub storeOne : SlidingWindow → List ℕ → ℕ → Outcome Unit
+storeOne w cells n = checks ((member n (held w cells), 7) ∷ (tooFew w cells 1, 10) ∷ []) (refused w cells) (answers tt, grown w 1, storedCells w cells n 1)
+
+pub one-is : (w : SlidingWindow) (cells : List ℕ) (n : ℕ) → w .count ≤ length cells → storeRun w cells n 1 ≡ storeOne w cells n
+unfolding beforeHeld
+one-is w cells n h = by (member n (held w cells))
+  where
+    by : (t : Bool) → storeBefore w cells n 1 (cond t 0 1)
+        ≡ checks ((t, 7) ∷ (tooFew w cells 1, 10) ∷ []) (refused w cells) (answers tt, grown w 1, storedCells w cells n 1)
+    by true = run-none w cells n 1 h (omega arith)
+    by false = refl
+
+-- .. and at 7 the window is the one that came
+pub one-held : (w v : SlidingWindow) (cells left : List ℕ) (n : ℕ) → w .count ≤ length cells → (refuses 7, v, left) ≡ storeRun w cells n 1 → (refuses 7, w, left) ≡ storeRun w cells n 1
+one-held w v cells left n h e = rw (by (member n (held w cells)) (tooFew w cells 1) (e ∙ one-is w cells n h)) at e
+  where
+    by : (s t : Bool) → _≡_ {A = Outcome Unit} (refuses 7, v, left)
+        (checks ((s, 7) ∷ (t, 10) ∷ []) (refused w cells) (answers tt, grown w 1, storedCells w cells n 1)) → v ≡ w
+    by true t e = ap (λ (o : Outcome Unit). o .1) e
+    by false true e = absurd (let z : _≡_ {A = ℕ} 7 10 = ap (λ (o : Outcome Unit). refusalIn (o .0)) e in omega arith)
+    by false false e = absurd (let z : _≡_ {A = ℕ} 7 0 = ap (λ (o : Outcome Unit). refusalIn (o .0)) e in omega arith)
 
 -- `shift_down`, then `clear`: k numbers consumed
 pub consumed-is : (cells shifted left : List ℕ) (k count : ℕ) → k ≤ count → count ≤ length cells

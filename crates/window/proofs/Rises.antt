@@ -1,8 +1,8 @@
 -- What the test of refusal 12 says of the numbers held, as facts of them; and what follows of membership and of a number's place.
 -- Assumes nothing.
-use Prim.Native.Nat.{ℕ, zero, suc, _+_, _-_, _≤_, _<_, zero-le, suc-le-suc}
+use Prim.Native.Nat.{ℕ, zero, suc, _+_, _-_, _≤_, _<_, min, zero-le, suc-le-suc}
 use mathlib.Core.Path.{_≡_, refl, ap}
-use mathlib.Core.Bool.{Bool, true, false, not, cond, _&&_, _||_, false≢true, or-true}
+use mathlib.Core.Bool.{Bool, true, false, not, cond, _&&_, _||_, or-true}
 use mathlib.Core.List.{List, [], _∷_}
 use native.Mathlib.Nat.{le-of-suc-le-suc, not-suc-le-zero}
 use native.Mathlib.Omega.{arith}
@@ -10,6 +10,7 @@ use lib.ListN.{length, take, getD}
 use lib.Dec.{ltb, leb, eqb}
 use borrow.Author.Tests.{lt-ltb, le-ltb, le-leb, lt-leb, eq-eqb, ne-eqb, ltb-true, ltb-false, leb-true, leb-false, not-true}
 use Rattle.lists.specs.Numbers.{largest}
+use Rattle.lists.proofs.Tests.{both}
 use Rattle.window.specs.declared.SlidingWindow.{SlidingWindow}
 use Rattle.window.specs.Window.{windowSize, expected, below, beyond, exhausted, held, member, rising, holdable, allHoldable, wellFormed, place}
 
@@ -18,44 +19,37 @@ abbrev pub Rises : ℕ → ℕ → List ℕ → Type 0
 Rises lo hi [] = Unit
 Rises lo hi (x ∷ xs) = (lo ≤ x) × (x < hi) × Rises (suc x) hi xs
 
+-- the first number that is too large for the window, by its distance or by its size
+abbrev pub bound : SlidingWindow → ℕ
+bound w = min (expected w + windowSize) largest
+
 pub record WellFormed (w : SlidingWindow) (cells : List ℕ) : Type 0 where
   pub fits : w .count ≤ length cells
-  pub near : Rises (expected w) (expected w + windowSize) (held w cells)
-  pub small : Rises (expected w) largest (held w cells)
+  pub rises : Rises (expected w) (bound w) (held w cells)
 
--- both sides of a conjunction that holds
-pub both : (a b : Bool) → (a && b) ≡ true → (a ≡ true) × (b ≡ true)
-both true b h = (refl, h)
-both false b h = absurd (false≢true h)
-
--- a number that the window may hold
-pub record Holdable (w : SlidingWindow) (n : ℕ) : Type 0 where
-  pub above : expected w ≤ n
-  pub near : n < expected w + windowSize
-  pub small : n < largest
-
-pub is-holdable : (w : SlidingWindow) (n : ℕ) → holdable w n ≡ true → Holdable w n
+pub is-holdable : (w : SlidingWindow) (n : ℕ) → holdable w n ≡ true → (expected w ≤ n) × (n < bound w)
 is-holdable w n h =
     let ab = both (not (below w n) && not (beyond w n)) (not (exhausted n)) h in
     let a = both (not (below w n)) (not (beyond w n)) (ab .0) in
     let l = ltb-false n (expected w) (not-true (below w n) (a .0)) in
     let m = leb-false windowSize (n - expected w) (not-true (beyond w n) (a .1)) in
-    record { above = l; near = omega arith; small = leb-false largest n (not-true (exhausted n) (ab .1)) }
+    let s = leb-false largest n (not-true (exhausted n) (ab .1)) in
+    (l, omega arith)
 
-pub holdable-is : (w : SlidingWindow) (n : ℕ) → Holdable w n → holdable w n ≡ true
-holdable-is w n h = rw (le-ltb n (expected w) (h .above), lt-leb windowSize (n - expected w) (omega arith), lt-leb largest n (h .small))
+pub holdable-is : (w : SlidingWindow) (n : ℕ) → expected w ≤ n → n < bound w → holdable w n ≡ true
+holdable-is w n l u = rw (le-ltb n (expected w) l, lt-leb windowSize (n - expected w) (omega arith), lt-leb largest n (omega arith))
 
--- the test's two halves, as one fact for each bound, and back
-rises : (w : SlidingWindow) (hi : ℕ) (xs : List ℕ) → ((x : ℕ) → Holdable w x → x < hi) → rising xs ≡ true → allHoldable w xs ≡ true → Rises (expected w) hi xs
+-- the test's two halves as one fact, and back
+rises : (w : SlidingWindow) (xs : List ℕ) → rising xs ≡ true → allHoldable w xs ≡ true → Rises (expected w) (bound w) xs
 unfolding rising allHoldable
-rises w hi [] f r a = tt
-rises w hi (x ∷ []) f r a = let h = is-holdable w x (both (holdable w x) true a .0) in (h .above, f x h, tt)
-rises w hi (x ∷ y ∷ ys) f r a =
+rises w [] r a = tt
+rises w (x ∷ []) r a = let h = is-holdable w x (both (holdable w x) true a .0) in (h .0, h .1, tt)
+rises w (x ∷ y ∷ ys) r a =
     let up = both (ltb x y) (rising (y ∷ ys)) r in
     let all = both (holdable w x) (allHoldable w (y ∷ ys)) a in
     let h = is-holdable w x (all .0) in
-    let rest = rises w hi (y ∷ ys) f (up .1) (all .1) in
-    (h .above, f x h, (ltb-true x y (up .0), rest .1, rest .2))
+    let rest = rises w (y ∷ ys) (up .1) (all .1) in
+    (h .0, h .1, (ltb-true x y (up .0), rest .1, rest .2))
 
 rising-is : (lo hi : ℕ) (xs : List ℕ) → Rises lo hi xs → rising xs ≡ true
 unfolding rising
@@ -63,35 +57,33 @@ rising-is lo hi [] h = refl
 rising-is lo hi (x ∷ []) h = refl
 rising-is lo hi (x ∷ y ∷ ys) h = rw (lt-ltb x y (h .2 .0)) (rising-is (suc x) hi (y ∷ ys) (h .2))
 
-all-holdable : (w : SlidingWindow) (lo : ℕ) (xs : List ℕ) → expected w ≤ lo → Rises lo (expected w + windowSize) xs → Rises lo largest xs → allHoldable w xs ≡ true
+all-holdable : (w : SlidingWindow) (lo : ℕ) (xs : List ℕ) → expected w ≤ lo → Rises lo (bound w) xs → allHoldable w xs ≡ true
 unfolding allHoldable
-all-holdable w lo [] l a b = refl
-all-holdable w lo (x ∷ xs) l a b =
-    rw (holdable-is w x (record { above = omega arith; near = a .1; small = b .1 })) (all-holdable w (suc x) xs (omega arith) (a .2) (b .2))
+all-holdable w lo [] l r = refl
+all-holdable w lo (x ∷ xs) l r = rw (holdable-is w x (omega arith) (r .1)) (all-holdable w (suc x) xs (omega arith) (r .2))
 
 pub well-formed : (w : SlidingWindow) (cells : List ℕ) → wellFormed w cells ≡ true → WellFormed w cells
 unfolding wellFormed
 well-formed w cells h =
     let fr = both (leb (w .count) (length cells) && rising (held w cells)) (allHoldable w (held w cells)) h in
     let f = both (leb (w .count) (length cells)) (rising (held w cells)) (fr .0) in
-    record {
-      fits = leb-true (w .count) (length cells) (f .0);
-      near = rises w (expected w + windowSize) (held w cells) (λ x k. k .near) (f .1) (fr .1);
-      small = rises w largest (held w cells) (λ x k. k .small) (f .1) (fr .1);
-    }
+    record { fits = leb-true (w .count) (length cells) (f .0); rises = rises w (held w cells) (f .1) (fr .1) }
 
 pub well-formed-is : (w : SlidingWindow) (cells : List ℕ) → WellFormed w cells → wellFormed w cells ≡ true
 unfolding wellFormed
 well-formed-is w cells h =
-    rw (le-leb (w .count) (length cells) (h .fits), rising-is (expected w) largest (held w cells) (h .small))
-    (all-holdable w (expected w) (held w cells) (omega arith) (h .near) (h .small))
+    rw (le-leb (w .count) (length cells) (h .fits), rising-is (expected w) (bound w) (held w cells) (h .rises))
+    (all-holdable w (expected w) (held w cells) (omega arith) (h .rises))
 
 module _ (hi : ℕ) where
-  -- the number at an index has at least as many numbers of the range below it
-  pub rises-at : (lo i : ℕ) (xs : List ℕ) → Rises lo hi xs → i < length xs → (lo + i ≤ getD xs i 0) × (getD xs i 0 < hi)
-  rises-at lo i [] r h = absurd (not-suc-le-zero h)
-  rises-at lo zero (x ∷ xs) r h = (omega arith, r .1)
-  rises-at lo (suc i) (x ∷ xs) r h = let k = rises-at (suc x) i xs (r .2) (le-of-suc-le-suc h) in (omega arith, k .1)
+  -- the number in a cell has at least as many numbers of the range below it
+  pub rises-at : (lo count i : ℕ) (cells : List ℕ) → Rises lo hi (take count cells) → i < count → count ≤ length cells → (lo + i ≤ getD cells i 0) × (getD cells i 0 < hi)
+  rises-at lo count i [] r h k = absurd (omega arith)
+  rises-at lo zero i (x ∷ xs) r h k = absurd (not-suc-le-zero h)
+  rises-at lo (suc c) zero (x ∷ xs) r h k = (omega arith, r .1)
+  rises-at lo (suc c) (suc i) (x ∷ xs) r h k =
+      let q = rises-at (suc x) c i xs (r .2) (le-of-suc-le-suc h) (le-of-suc-le-suc k) in
+      (omega arith, q .1)
 
   -- a number below all of them is none of them
   pub not-below : (lo n : ℕ) (xs : List ℕ) → Rises lo hi xs → n < lo → member n xs ≡ false
@@ -111,22 +103,16 @@ module _ (hi : ℕ) where
       by ih true t f = let l = ltb-true x b t in rw (ne-eqb x n (λ q. omega arith)) (ih (λ p. f (suc-le-suc p)))
       by ih false t f = let l : n < x = f (suc-le-suc zero-le) in rw (ne-eqb x n (λ q. omega arith), not-below (suc x) n xs (r .2) (omega arith))
 
-  -- where the last number is below n, n's place is behind all of them
-  pub place-behind : (lo n i : ℕ) (xs : List ℕ) → Rises lo hi xs → length xs ≡ suc i → getD xs i 0 < n → place n xs ≡ suc i
+  -- where the number in cell i is below n, n's place among those up to it is behind all of them
+  pub place-behind : (lo n count i : ℕ) (cells : List ℕ) → Rises lo hi (take count cells) → i < count → count ≤ length cells → getD cells i 0 < n
+      → place n (take (suc i) cells) ≡ suc i
   unfolding place
-  place-behind lo n i [] r q h = absurd (let z : _≡_ {A = ℕ} 0 1 = omega arith in omega arith)
-  place-behind lo n zero (x ∷ []) r q h = rw (lt-ltb x n h)
-  place-behind lo n zero (x ∷ y ∷ ys) r q h = absurd (omega arith)
-  place-behind lo n (suc i) (x ∷ xs) r q h =
-      let l : length xs ≡ suc i = omega arith in
-      let k = rises-at (suc x) i xs (r .2) (omega arith) in
-      rw (lt-ltb x n (omega arith)) (ap suc (place-behind (suc x) n i xs (r .2) l h))
-
-  -- the first of rising numbers rise
-  pub rises-take : (lo i : ℕ) (xs : List ℕ) → Rises lo hi xs → Rises lo hi (take i xs)
-  rises-take lo zero xs r = tt
-  rises-take lo (suc i) [] r = tt
-  rises-take lo (suc i) (x ∷ xs) r = (r .0, r .1, rises-take (suc x) i xs (r .2))
+  place-behind lo n count i [] r h k l = absurd (omega arith)
+  place-behind lo n zero i (x ∷ xs) r h k l = absurd (not-suc-le-zero h)
+  place-behind lo n (suc c) zero (x ∷ xs) r h k l = rw (lt-ltb x n l)
+  place-behind lo n (suc c) (suc i) (x ∷ xs) r h k l =
+      let q = rises-at (suc x) c i xs (r .2) (le-of-suc-le-suc h) (le-of-suc-le-suc k) in
+      rw (lt-ltb x n (omega arith)) (ap suc (place-behind (suc x) n c i xs (r .2) (le-of-suc-le-suc h) (le-of-suc-le-suc k) l))
 
 -- a number that stands at an index is one of them
 pub is-member : (n i : ℕ) (xs : List ℕ) → i < length xs → getD xs i 0 ≡ n → member n xs ≡ true

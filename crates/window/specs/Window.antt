@@ -9,6 +9,7 @@ use lib.Dec.{ltb, leb, eqb}
 use Rattle.refusal.specs.Refusal.{numberOf}
 use Rattle.refusal.specs.Said.{Said, answers, refuses, checks}
 use Rattle.lists.specs.Numbers.{largest}
+unfoldable pub use Rattle.lists.specs.Rising.{rising}
 use Rattle.window.specs.declared.SlidingWindow.{SlidingWindow}
 use Rattle.window.specs.declared.Inserted.{Inserted}
 use Rattle.window.specs.declared.Inserted.the-variants as inserted
@@ -63,11 +64,6 @@ tooFew w cells k = ltb (length cells) (w .count + k)
 
 -- Refusal 12: "a held number above 2^64 − 2; window numbers not rising or outside the 40,000; more of them than cells"
 
-unfoldable pub rising : List ℕ → Bool
-rising [] = true
-rising (x ∷ []) = true
-rising (x ∷ y ∷ ys) = ltb x y && rising (y ∷ ys)
-
 abbrev pub holdable : SlidingWindow → ℕ → Bool
 holdable w n = not (below w n) && not (beyond w n) && not (exhausted n)
 
@@ -103,6 +99,24 @@ storedCells w cells b k = stored b k (held w cells) ++ drop (w .count + k) cells
 abbrev pub grown : SlidingWindow → ℕ → SlidingWindow
 grown w k = window (expected w) (w .count + k)
 
+-- .. those of the run of `count` numbers from base on that stand before the first already held:
+-- "find the first number already held, and store those before it: 10 if the cells are too few (nothing stored), 7 if one was held"
+
+-- how many of the k numbers from b on stand before the first already held
+unfoldable pub beforeHeld : ℕ → ℕ → List ℕ → ℕ
+beforeHeld b zero xs = zero
+beforeHeld b (suc k) xs = cond (member b xs) zero (suc (beforeHeld (suc b) k xs))
+
+-- k of them stored
+abbrev pub storedBefore : SlidingWindow → List ℕ → ℕ → ℕ → ℕ → Outcome Unit
+storedBefore w cells base count k = (cond (ltb k count) (refuses 7) (answers tt), grown w k, storedCells w cells base k)
+
+abbrev pub storeBefore : SlidingWindow → List ℕ → ℕ → ℕ → ℕ → Outcome Unit
+storeBefore w cells base count k = checks ((tooFew w cells k, 10) ∷ []) (refused w cells) (storedBefore w cells base count k)
+
+abbrev pub storeRun : SlidingWindow → List ℕ → ℕ → ℕ → Outcome Unit
+storeRun w cells base count = storeBefore w cells base count (beforeHeld base count (held w cells))
+
 -- "Insert n: below the smallest expected, 5; distance 40,000 or more, 6; n = 2^64 − 1, 9; present, 7; no cell, 10"
 
 abbrev pub insertChecks : SlidingWindow → List ℕ → ℕ → List (Bool × ℕ)
@@ -112,26 +126,15 @@ unfoldable pub insertPacketNumber : SlidingWindow → List ℕ → ℕ → Outco
 insertPacketNumber w cells n = unlessMalformed w cells (checks (insertChecks w cells n) (refused w cells) (answers tt, grown w 1, storedCells w cells n 1))
 
 -- "`insert_range`: count 0 is accepted unchecked; base below, 5; base + count above 2^64 − 1, 9; last number's distance 40,000 or more, 6;
--- then find the first number already held, and store those before it: 10 if the cells are too few (nothing stored), 7 if one was held"
+-- then find the first number already held, and store those before it"
 
--- how many of the k numbers from b on stand before the first already held
-unfoldable pub beforeHeld : ℕ → ℕ → List ℕ → ℕ
-beforeHeld b zero xs = zero
-beforeHeld b (suc k) xs = cond (member b xs) zero (suc (beforeHeld (suc b) k xs))
-
-abbrev pub rangeChecks : SlidingWindow → List ℕ → ℕ → ℕ → ℕ → List (Bool × ℕ)
-rangeChecks w cells base count k =
-    (below w base, 5) ∷ (ltb largest (base + count), 9) ∷ (beyond w (base + count - 1), 6) ∷ (tooFew w cells k, 10) ∷ []
-
--- .. where k of the range's numbers stand before the first already held
-abbrev pub insertBefore : SlidingWindow → List ℕ → ℕ → ℕ → ℕ → Outcome Unit
-insertBefore w cells base count k =
-    checks (rangeChecks w cells base count k) (refused w cells) (cond (ltb k count) (refuses 7) (answers tt), grown w k, storedCells w cells base k)
+abbrev pub rangeChecks : SlidingWindow → ℕ → ℕ → List (Bool × ℕ)
+rangeChecks w base count = (below w base, 5) ∷ (ltb largest (base + count), 9) ∷ (beyond w (base + count - 1), 6) ∷ []
 
 unfoldable pub insertRange : SlidingWindow → List ℕ → ℕ → ℕ → Outcome Unit
 insertRange w cells base count =
     unlessMalformed w cells
-    (cond (eqb count 0) (answers tt, w, cells) (insertBefore w cells base count (beforeHeld base count (held w cells))))
+    (cond (eqb count 0) (answers tt, w, cells) (checks (rangeChecks w base count) (refused w cells) (storeRun w cells base count)))
 
 -- "`consume`: none if the smallest expected is absent; otherwise it drops the unbroken run from it, answers the run's last number and length,
 -- and expects the next; the rest moves to the first cells, freed cells become 0"

@@ -3,14 +3,14 @@
 // Proved: each call says what the definition says, and leaves the window and the cells as it does, for every window and every content of the cells.
 use refusal::Refusal;
 ghost use mathlib.Core.Path.{_≡_};
-ghost use mathlib.Core.Bool.{true, _&&_};
+ghost use mathlib.Core.Bool.{true};
 ghost use Prim.Native.Nat.{_+_, _-_, _≤_, _<_};
 ghost use lib.ListN.{length, take, drop, replicate};
 ghost use lib.Seq.{paste};
-ghost use lib.Dec.{ltb};
 ghost use Rattle.lists.specs.Numbers.{largest};
-ghost use Rattle.window.specs.Window.{expected, window, held, rising, holdable, wellFormed, place, numbers, beforeHeld, runLength};
-ghost use Rattle.window.specs.Window.{insertPacketNumber, insertRange, consume};
+ghost use Rattle.lists.specs.Rising.{rising, fiveRise};
+ghost use Rattle.window.specs.Window.{expected, window, held, holdable, wellFormed, place, numbers, beforeHeld, runLength};
+ghost use Rattle.window.specs.Window.{storeRun, insertPacketNumber, insertRange, consume};
 ghost use Rattle.window.specs.Window.{insertedSays, windowAfterInsert, rangeInsertedSays, windowAfterRange, consumedSays, windowAfterConsume};
 
 // How far from the smallest expected number on a number may be held.
@@ -98,13 +98,7 @@ fn is_rising(cells: &[u64], count: usize) -> bool
 {
     let mut i = 0;
     while count - i > 4 {
-        if !five_rise(
-            cells[i],
-            cells[i + 1],
-            cells[i + 2],
-            cells[i + 3],
-            cells[i + 4],
-        ) {
+        if !five_rise(cells, i) {
             return false;
         }
         i += 4;
@@ -112,10 +106,14 @@ fn is_rising(cells: &[u64], count: usize) -> bool
     is_rising_from(cells, count, i)
 }
 
-fn five_rise(a: u64, b: u64, c: u64, d: u64, e: u64) -> bool
-    ensures { λ r. ⌜ r ≡ (ltb a b && ltb b c && ltb c d && ltb d e) ⌝ }
+fn five_rise(cells: &[u64], i: usize) -> bool
+    requires { ⌜ i + 4 < length (now cells) ⌝ }
+    ensures { λ r. ⌜ r ≡ fiveRise (now (cells .entry)) i ⌝ }
 {
-    (a < b) & (b < c) & (c < d) & (d < e)
+    let b = cells[i + 1];
+    let c = cells[i + 2];
+    let d = cells[i + 3];
+    (cells[i] < b) & (b < c) & (c < d) & (d < cells[i + 4])
 }
 
 fn is_rising_from(cells: &[u64], count: usize, from: usize) -> bool
@@ -150,21 +148,21 @@ fn find_place(w: SlidingWindow, cells: &[u64], n: u64) -> usize
 // How many of the range's numbers, from base on, stand before the first that is held; `at` is base's place.
 // As the numbers rise, the first held one can stand nowhere but there.
 fn first_held(w: SlidingWindow, cells: &[u64], at: usize, base: u64, range: usize) -> usize
-    requires { ⌜ (wellFormed w (now cells) ≡ true) × (at ≡ place base (held w (now cells))) × (base + range ≤ largest) ⌝ }
+    requires { ⌜ (wellFormed w (now cells) ≡ true) × (at ≡ place base (held w (now cells))) × (0 < range) × (base + range ≤ largest) ⌝ }
     ensures { λ r. ⌜ (r ≡ beforeHeld base range (held w (now (cells .entry)))) × (r ≤ range) ⌝ }
 {
     let count = w.count;
     let mut i = 0;
     loop {
-        if i >= range {
-            break range;
-        }
         if at < count {
             if cells[at] == base + i as u64 {
                 break i;
             }
         }
         i += 1;
+        if i >= range {
+            break range;
+        }
     }
 }
 
@@ -190,6 +188,33 @@ fn fill(cells: &mut [u64], at: usize, base: u64, k: usize)
         cells[at + i] = base + i as u64;
         i += 1;
     }
+}
+
+// Stores those of the run's numbers, from base on, that stand before the first already held. All loops of an insert are here:
+// the place, the first held, the move and the writing.
+fn store_run(w: SlidingWindow, cells: &mut [u64], base: u64, range: usize) -> RangeInserted
+    requires { ⌜ (wellFormed w (now cells) ≡ true) × (0 < range) × (base + range ≤ largest) ⌝ }
+    ensures { λ r. ⌜ (rangeInsertedSays r, windowAfterRange w r, now (cells .exit)) ≡ storeRun w (now (cells .entry)) base range ⌝ }
+{
+    let held = w.count;
+    let at = find_place(w, cells, base);
+    let k = first_held(w, cells, at, base, range);
+    if k == 0 {
+        return RangeInserted::AlreadyHeld(w);
+    }
+    if k > cells.len() - held {
+        return RangeInserted::Refused(Refusal::BufferShort);
+    }
+    shift_up(cells, at, held, k);
+    fill(cells, at, base, k);
+    let grown = SlidingWindow {
+        smallest_expected: w.smallest_expected,
+        count: held + k,
+    };
+    if k < range {
+        return RangeInserted::AlreadyHeld(grown);
+    }
+    RangeInserted::Stored(grown)
 }
 
 // How many numbers are held in an unbroken run from the smallest expected on.
@@ -250,7 +275,6 @@ pub fn insert_packet_number_unchecked(w: SlidingWindow, cells: &mut [u64], n: u6
     ensures { λ r. ⌜ (insertedSays r, windowAfterInsert w r, now (cells .exit)) ≡ insertPacketNumber w (now (cells .entry)) n ⌝ }
 {
     let expected = w.smallest_expected;
-    let count = w.count;
     if n < expected {
         return Inserted::Refused(Refusal::Below);
     }
@@ -260,19 +284,12 @@ pub fn insert_packet_number_unchecked(w: SlidingWindow, cells: &mut [u64], n: u6
     if n == MAX_NUMBER {
         return Inserted::Refused(Refusal::Exhausted);
     }
-    let at = find_place(w, cells, n);
-    if first_held(w, cells, at, n, 1) == 0 {
-        return Inserted::Refused(Refusal::AlreadyHeld);
+    let stored = store_run(w, cells, n, 1);
+    match stored {
+        RangeInserted::Stored(grown) => Inserted::Stored(grown),
+        RangeInserted::AlreadyHeld(same) => Inserted::Refused(Refusal::AlreadyHeld),
+        RangeInserted::Refused(r) => Inserted::Refused(r),
     }
-    if count >= cells.len() {
-        return Inserted::Refused(Refusal::BufferShort);
-    }
-    shift_up(cells, at, count, 1);
-    fill(cells, at, n, 1);
-    Inserted::Stored(SlidingWindow {
-        smallest_expected: expected,
-        count: count + 1,
-    })
 }
 
 // utils/window.rs, SlidingWindow::insert_range.
@@ -295,10 +312,8 @@ pub fn insert_range_unchecked(
     requires { ⌜ wellFormed w (now cells) ≡ true ⌝ }
     ensures { λ r. ⌜ (rangeInsertedSays r, windowAfterRange w r, now (cells .exit)) ≡ insertRange w (now (cells .entry)) base count ⌝ }
 {
-    let range = count as usize;
     let many = count as u64;
     let expected = w.smallest_expected;
-    let held = w.count;
     if count == 0 {
         return RangeInserted::Stored(w);
     }
@@ -311,21 +326,7 @@ pub fn insert_range_unchecked(
     if base + many - 1 - expected >= MAX_SLIDING_WINDOW_SIZE {
         return RangeInserted::Refused(Refusal::Beyond);
     }
-    let at = find_place(w, cells, base);
-    let k = first_held(w, cells, at, base, range);
-    if k > cells.len() - held {
-        return RangeInserted::Refused(Refusal::BufferShort);
-    }
-    shift_up(cells, at, held, k);
-    fill(cells, at, base, k);
-    let grown = SlidingWindow {
-        smallest_expected: expected,
-        count: held + k,
-    };
-    if k < range {
-        return RangeInserted::AlreadyHeld(grown);
-    }
-    RangeInserted::Stored(grown)
+    store_run(w, cells, base, count as usize)
 }
 
 // utils/window.rs, SlidingWindow::consume.

@@ -4,10 +4,10 @@ use Prim.Native.Nat.{ℕ, _+_, _-_, _≤_}
 use mathlib.Core.Path.{_≡_, refl, ap, _∙_}
 use mathlib.Core.List.{List}
 use native.Mathlib.Omega.{arith}
-use lib.ListN.{length, set, length-set, replicate}
+use lib.ListN.{length, set, length-set, replicate, length-replicate, getD-replicate}
 use lib.Seq.{paste, paste-zero}
 use borrow.Author.Needs.{needs}
-use Rattle.window.proofs.Loops.{clear-at}
+use Rattle.window.proofs.Loops.{write-at}
 use Rattle.window.proofs.clear.Statement.{statement}
 use Rattle.window.proofs.clear.Tie as tie
 
@@ -40,7 +40,8 @@ loop-again c =
     let l = c .before in
     let a = l .before .args in
     let i = l .loop .i in
-    let turn = clear-at (a .cells .now) (a .at) (a .k) i (omega arith) (omega arith) in
+    let told = getD-replicate {A = ℕ} (a .k) i 0 0 (omega arith) in
+    let turn = write-at (a .cells .now) (replicate (a .k) 0) (a .at) (a .k) i 0 (length-replicate {A = ℕ} (a .k) 0) told (omega arith) (omega arith) in
     (omega arith, simp length-set (omega arith), ap (λ (x : List ℕ). set x (a .at + i) 0) (l .loop .inv .2) ∙ turn)
 
 same-length : tie.Need-same-length Inv-loop μ-loop

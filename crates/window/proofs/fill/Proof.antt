@@ -8,7 +8,7 @@ use lib.ListN.{length, set, length-set}
 use lib.Seq.{paste, paste-zero}
 use borrow.Author.Needs.{needs}
 use Rattle.window.specs.Window.{numbers}
-use Rattle.window.proofs.Loops.{fill-at}
+use Rattle.window.proofs.Loops.{length-numbers, getD-numbers, write-at}
 use Rattle.window.proofs.fill.Statement.{statement}
 use Rattle.window.proofs.fill.Tie as tie
 
@@ -44,7 +44,8 @@ loop-again c =
     let l = c .before in
     let a = l .before .args in
     let i = l .loop .i in
-    let turn = fill-at (a .cells .now) (a .at) (a .base) (a .k) i (omega arith) (omega arith) in
+    let told = getD-numbers (a .base) (a .k) i (omega arith) in
+    let turn = write-at (a .cells .now) (numbers (a .base) (a .k)) (a .at) (a .k) i (a .base + i) (length-numbers (a .base) (a .k)) told (omega arith) (omega arith) in
     (omega arith, simp length-set (omega arith), ap (λ (x : List ℕ). set x (a .at + i) (a .base + i)) (l .loop .inv .2) ∙ turn)
 
 same-length : tie.Need-same-length Inv-loop μ-loop

@@ -1,14 +1,12 @@
 -- `find_place`: n's place among all numbers held is its place among the first i; it stops behind the last number below n.
 -- Assumes nothing.
-use Prim.Native.Nat.{suc, _-_, _≤_, _<_}
+use Prim.Native.Nat.{suc, _-_, _≤_}
 use mathlib.Core.Path.{_≡_, refl, sym, _∙_}
 use native.Mathlib.Omega.{arith}
-use lib.ListN.{length, take, getD}
-use lib.Seq.{length-take-le, take-take, getD-take}
+use lib.ListN.{take}
 use borrow.Author.Needs.{needs}
-use Rattle.lists.specs.Numbers.{largest}
-use Rattle.window.specs.Window.{expected, held, place}
-use Rattle.window.proofs.Rises.{well-formed, rises-take, place-behind}
+use Rattle.window.specs.Window.{expected, place}
+use Rattle.window.proofs.Rises.{bound, well-formed, place-behind}
 use Rattle.window.proofs.Loops.{place-back}
 use Rattle.window.proofs.find_place.Statement.{statement}
 use Rattle.window.proofs.find_place.Tie as tie
@@ -46,10 +44,8 @@ returns c =
     let i = l .loop .i in
     let wf = well-formed (a .w) (a .cells .now) (l .before .pre) in
     let q : suc (i - 1) ≡ i = omega arith in
-    let long : length (take i (a .cells .now)) ≡ suc (i - 1) = length-take-le i (a .cells .now) (omega arith) ∙ sym q in
-    let first = rw (take-take i (a .w .count) (a .cells .now) (omega arith)) at (rises-take largest (expected (a .w)) i (held (a .w) (a .cells .now)) (wf .small)) in
-    let last : getD (take i (a .cells .now)) (i - 1) 0 < a .n = rw (getD-take i (a .cells .now) (i - 1) 0 (omega arith)) (omega arith) in
-    (sym (l .loop .inv .1 ∙ place-behind largest (expected (a .w)) (a .n) (i - 1) (take i (a .cells .now)) first long last ∙ q), omega arith)
+    let behind = place-behind (bound (a .w)) (expected (a .w)) (a .n) (a .w .count) (i - 1) (a .cells .now) (wf .rises) (omega arith) (wf .fits) (omega arith) in
+    (sym (l .loop .inv .1 ∙ rw q at behind), omega arith)
 
 sub-i : tie.Need-sub-i Inv-loop μ-loop
 sub-i c = search needs

@@ -6,8 +6,8 @@ use native.Mathlib.Omega.{arith}
 use lib.ListN.{take, drop}
 use borrow.Author.Tests.{not-true, not-false}
 use borrow.Author.Needs.{needs}
+use Rattle.lists.proofs.Rising.{rising-five}
 use Rattle.window.specs.Window.{rising}
-use Rattle.window.proofs.Loops.{rising-five}
 use Rattle.window.proofs.is_rising.Statement.{statement}
 use Rattle.window.proofs.is_rising.Tie as tie
 
@@ -23,58 +23,16 @@ loop-holds c = (omega arith, refl)
 sub-loop : tie.Need-sub-loop Inv-loop μ-loop
 sub-loop c = search needs
 
-mul-five-rise : tie.Need-mul-five-rise Inv-loop μ-loop
-mul-five-rise c = search needs
-
-shared-slice-read-five-rise : tie.Need-shared-slice-read-five-rise Inv-loop μ-loop
-shared-slice-read-five-rise c = search needs
-
-add-five-rise : tie.Need-add-five-rise Inv-loop μ-loop
-add-five-rise c = search needs
-
-mul-five-rise-2 : tie.Need-mul-five-rise-2 Inv-loop μ-loop
-mul-five-rise-2 c = search needs
-
-shared-slice-read-five-rise-2 : tie.Need-shared-slice-read-five-rise-2 Inv-loop μ-loop
-shared-slice-read-five-rise-2 c = search needs
-
-add-five-rise-2 : tie.Need-add-five-rise-2 Inv-loop μ-loop
-add-five-rise-2 c = search needs
-
-mul-five-rise-3 : tie.Need-mul-five-rise-3 Inv-loop μ-loop
-mul-five-rise-3 c = search needs
-
-shared-slice-read-five-rise-3 : tie.Need-shared-slice-read-five-rise-3 Inv-loop μ-loop
-shared-slice-read-five-rise-3 c = search needs
-
-add-five-rise-3 : tie.Need-add-five-rise-3 Inv-loop μ-loop
-add-five-rise-3 c = search needs
-
-mul-five-rise-4 : tie.Need-mul-five-rise-4 Inv-loop μ-loop
-mul-five-rise-4 c = search needs
-
-shared-slice-read-five-rise-4 : tie.Need-shared-slice-read-five-rise-4 Inv-loop μ-loop
-shared-slice-read-five-rise-4 c = search needs
-
-add-five-rise-4 : tie.Need-add-five-rise-4 Inv-loop μ-loop
-add-five-rise-4 c = search needs
-
-mul-five-rise-5 : tie.Need-mul-five-rise-5 Inv-loop μ-loop
-mul-five-rise-5 c = search needs
-
-shared-slice-read-five-rise-5 : tie.Need-shared-slice-read-five-rise-5 Inv-loop μ-loop
-shared-slice-read-five-rise-5 c = search needs
-
 five-rise-requires : tie.Need-five-rise-requires Inv-loop μ-loop
 five-rise-requires c κs = search needs
 
 returns : tie.Need-returns Inv-loop μ-loop
 returns c =
-    let l = c .before .before .before .before .before .before .before .before in
+    let l = c .before .before .before in
     let a = l .before .before .args in
     let five = c .before .five-rise in
-    let turn = rising-five (a .cells .now) (a .count) (l .loop .i) (five .result) (omega arith) (omega arith) (five .ensures) in
-    sym (l .loop .inv .1 ∙ rw (turn, not-true (five .result) (c .if1 .taken)))
+    let turn = rising-five (a .cells .now) (a .count) (l .loop .i) (omega arith) (omega arith) in
+    sym (l .loop .inv .1 ∙ rw (turn, ← five .ensures, not-true (five .result) (c .if1 .taken)))
 
 add-i : tie.Need-add-i Inv-loop μ-loop
 add-i c = search needs
@@ -84,11 +42,11 @@ loop-less c = search needs
 
 loop-again : tie.Need-loop-again Inv-loop μ-loop
 loop-again c =
-    let l = c .before .before .before .before .before .before .before .before in
+    let l = c .before .before .before in
     let a = l .before .before .args in
     let five = c .before .five-rise in
-    let turn = rising-five (a .cells .now) (a .count) (l .loop .i) (five .result) (omega arith) (omega arith) (five .ensures) in
-    (omega arith, l .loop .inv .1 ∙ rw (turn, not-false (five .result) (c .if1 .left)))
+    let turn = rising-five (a .cells .now) (a .count) (l .loop .i) (omega arith) (omega arith) in
+    (omega arith, l .loop .inv .1 ∙ rw (turn, ← five .ensures, not-false (five .result) (c .if1 .left)))
 
 is-rising-from-requires : tie.Need-is-rising-from-requires Inv-loop μ-loop
 is-rising-from-requires c κs = search needs
@@ -104,20 +62,6 @@ is-rising-spec =
     μ-loop
     loop-holds
     sub-loop
-    mul-five-rise
-    shared-slice-read-five-rise
-    add-five-rise
-    mul-five-rise-2
-    shared-slice-read-five-rise-2
-    add-five-rise-2
-    mul-five-rise-3
-    shared-slice-read-five-rise-3
-    add-five-rise-3
-    mul-five-rise-4
-    shared-slice-read-five-rise-4
-    add-five-rise-4
-    mul-five-rise-5
-    shared-slice-read-five-rise-5
     five-rise-requires
     returns
     add-i

@@ -6,8 +6,8 @@ use native.Mathlib.Omega.{arith}
 use lib.ListN.{take, drop}
 use borrow.Author.Needs.{needs}
 use borrow.Author.Tests.{lt-ltb, le-ltb}
+use Rattle.lists.proofs.Rising.{rising-at, rising-end}
 use Rattle.window.specs.Window.{rising}
-use Rattle.window.proofs.Loops.{rising-at, rising-end}
 use Rattle.window.proofs.is_rising_from.Statement.{statement}
 use Rattle.window.proofs.is_rising_from.Tie as tie
 

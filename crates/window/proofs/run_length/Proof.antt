@@ -3,13 +3,11 @@
 use Prim.Native.Nat.{_+_, _-_, _≤_}
 use mathlib.Core.Path.{_≡_, sym, _∙_}
 use native.Mathlib.Omega.{arith}
-use lib.Seq.{length-take-le}
 use lib.ListN.{take, drop, getD}
 use borrow.Author.Needs.{needs}
 use borrow.Author.Tests.{eq-eqb, ne-eqb}
-use Rattle.lists.specs.Numbers.{largest}
-use Rattle.window.specs.Window.{expected, held, runLength}
-use Rattle.window.proofs.Rises.{well-formed, rises-at}
+use Rattle.window.specs.Window.{expected, runLength}
+use Rattle.window.proofs.Rises.{bound, well-formed, rises-at}
 use Rattle.window.proofs.Loops.{run-at, run-end}
 use Rattle.window.proofs.run_length.Statement.{statement}
 use Rattle.window.proofs.run_length.Tie as tie
@@ -42,7 +40,7 @@ add-if1 c =
     let l = c .before .before in
     let a = l .before .args in
     let wf = well-formed (a .w) (a .cells .now) (l .before .pre) in
-    let at = rises-at largest (expected (a .w)) (l .loop .i) (held (a .w) (a .cells .now)) (wf .small) (rw (length-take-le (a .w .count) (a .cells .now) (wf .fits)) (omega arith)) in
+    let at = rises-at (bound (a .w)) (expected (a .w)) (a .w .count) (l .loop .i) (a .cells .now) (wf .rises) (omega arith) (wf .fits) in
     omega arith
 
 returns : tie.Need-returns Inv-loop μ-loop
@@ -74,8 +72,9 @@ returns-2 : tie.Need-returns-2 Inv-loop μ-loop
 returns-2 c =
     let l = c .before in
     let a = l .before .args in
-    let wf = well-formed (a .w) (a .cells .now) (l .before .pre) in
-    (sym (l .loop .inv .1 ∙ rw (run-end (expected (a .w) + l .loop .i) (a .cells .now) (a .w .count) (l .loop .i) (omega arith) (wf .fits)) (omega arith)), omega arith)
+    let all : l .loop .i ≡ a .w .count = omega arith in
+    let q = rw (all, run-end (expected (a .w) + a .w .count) (a .cells .now) (a .w .count)) at (l .loop .inv .1) in
+    (omega arith, omega arith)
 
 pub run-length-spec : {M : Type 1} → statement M
 run-length-spec =
