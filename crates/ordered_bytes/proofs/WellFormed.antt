@@ -1,6 +1,6 @@
 -- What the tests of refusal 12 say, as plain facts, in both directions: `Shaped` for `shapeFits`, `Good` for `wellFormed`.
 -- Assumes nothing.
-use Prim.Native.Nat.{ℕ, zero, suc, _+_, _*_, _≤_, _<_, zero-le}
+use Prim.Native.Nat.{ℕ, zero, suc, _+_, _*_, _≤_, _<_}
 use mathlib.Core.Path.{_≡_, refl}
 use mathlib.Core.Bool.{Bool, true, false, not, _&&_, _||_, and-eq-true-iff}
 use mathlib.Core.Option.{Option, none}
@@ -8,11 +8,12 @@ use mathlib.Core.List.{List, [], _∷_}
 use native.Mathlib.Omega.{arith}
 use native.Mathlib.Nat.{add-zero, add-suc, suc-add}
 use lib.ListN.{length, getD}
-use lib.Dec.{ltb, leb}
+use lib.Dec.{ltb}
 use borrow.Author.Tests.{ltb-true, leb-true, eqb-true, lt-ltb, le-leb, eq-eqb}
 use Rattle.lists.specs.Numbers.{largest}
+use Rattle.lists.proofs.Within.{within, is-within}
 use Rattle.ordered_bytes.specs.Receiver.{isHeld, numbersFit}
-use Rattle.ordered_bytes.specs.Buffer.{Buffer, slots, width, view, between, shapeFits, allWithin, wellFormed}
+use Rattle.ordered_bytes.specs.Buffer.{Buffer, slots, width, view, between, shapeFits, wellFormed}
 
 -- both tests hold, and from both
 both : {a b : Bool} → (a && b) ≡ true → (a ≡ true) × (b ≡ true)
@@ -57,18 +58,6 @@ is-shaped s =
     and (is-between (s .some-slots) (s .few-slots))
     (and (is-between (s .some-width) (s .small-width))
     (and (eq-eqb _ _ (s .lengths-n)) (eq-eqb _ _ (s .store-n))))
-
--- every length is at most w, and so is the 0 read past the end
-pub within : (w : ℕ) (ls : List ℕ) → allWithin w ls ≡ true → (i : ℕ) → getD ls i 0 ≤ w
-unfolding allWithin
-within w [] e i = zero-le
-within w (l ∷ ls) e zero = leb-true _ _ (both e .0)
-within w (l ∷ ls) e (suc i) = within w ls (both {a = leb l w} e .1) i
-
-pub is-within : (w : ℕ) (ls : List ℕ) → ((i : ℕ) → getD ls i 0 ≤ w) → allWithin w ls ≡ true
-unfolding allWithin
-is-within w [] f = refl
-is-within w (l ∷ ls) f = and (le-leb l w (f 0)) (is-within w ls (λ i. f (suc i)))
 
 -- where the first place has number n, a held one at distance d has n + d, below the largest
 held-fits : (p : Option (List ℕ)) (n : ℕ) → (not (isHeld p) || ltb n largest) ≡ true → isHeld p ≡ true → n < largest

@@ -10,7 +10,7 @@ use lib.Dec.{ltb, leb}
 use Rattle.ordered_bytes.specs.declared.OrderedBytes.{OrderedBytes}
 use Rattle.ordered_bytes.specs.Receiver.{Receiver, numbersFit}
 pub use Rattle.slots.specs.Slots.{wrap, cleared, between, shapeFits}
-unfoldable pub use Rattle.slots.specs.Slots.{allWithin}
+unfoldable pub use Rattle.lists.specs.Within.{allWithin}
 
 -- the state and all that is lent beside it
 pub record Buffer : Type 0 where

@@ -1,8 +1,8 @@
 -- The slots of the receive buffer: the shape of the lent lists, which slot stands where, and slots that are emptied.
 -- Document 01, "From packets to the reader" and the refusal table.
 use Prim.Native.Nat.{ℕ, zero, suc, _+_, _-_, _*_}
-use mathlib.Core.Bool.{Bool, true, cond, _&&_}
-use mathlib.Core.List.{List, [], _∷_}
+use mathlib.Core.Bool.{Bool, cond, _&&_}
+use mathlib.Core.List.{List}
 use lib.ListN.{length, set}
 use lib.Dec.{ltb, leb, eqb}
 
@@ -24,8 +24,3 @@ between least most n = leb least n && leb n most
 abbrev pub shapeFits : ℕ → List Bool → List ℕ → List ℕ → Bool
 shapeFits w marks lengths store =
     between 1 2000 (length marks) && (between 1 65535 w && (eqb (length lengths) (length marks) && eqb (length store) ((length marks + 1) * w)))
-
--- no slot's length out of range
-unfoldable pub allWithin : ℕ → List ℕ → Bool
-allWithin w [] = true
-allWithin w (l ∷ ls) = leb l w && allWithin w ls

@@ -7,7 +7,8 @@ ghost use mathlib.Core.Bool.{true, false, _&&_};
 ghost use Prim.Native.Nat.{_+_, _*_, _≤_, _<_};
 ghost use lib.ListN.{length, drop, set, replicate};
 ghost use lib.Seq.{paste};
-ghost use Rattle.slots.specs.Slots.{wrap, cleared, shapeFits, allWithin};
+ghost use Rattle.lists.specs.Within.{allWithin};
+ghost use Rattle.slots.specs.Slots.{wrap, cleared, shapeFits};
 
 // net/ordered_bytes.rs, MAX_BUFFER_SIZE: the most slots.
 const MAX_BUFFER_SIZE: usize = 2000;

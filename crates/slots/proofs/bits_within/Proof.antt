@@ -7,8 +7,8 @@ use native.Mathlib.Omega.{arith}
 use lib.ListN.{drop}
 use borrow.Author.Needs.{needs}
 use borrow.Author.Tests.{leb-true}
-use Rattle.slots.specs.Slots.{allWithin}
-use Rattle.slots.proofs.Within.{bits-keep}
+use Rattle.lists.specs.Within.{allWithin}
+use Rattle.lists.proofs.Within.{bits-keep}
 use Rattle.slots.proofs.bits_within.Statement.{statement}
 use Rattle.slots.proofs.bits_within.Tie as tie
 

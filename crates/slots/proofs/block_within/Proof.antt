@@ -8,8 +8,8 @@ use native.Mathlib.Nat.{add-zero}
 use native.Mathlib.Omega.{arith}
 use lib.ListN.{drop}
 use borrow.Author.Needs.{needs}
-use Rattle.slots.specs.Slots.{allWithin}
-use Rattle.slots.proofs.Within.{within-keeps, within-fails}
+use Rattle.lists.specs.Within.{allWithin}
+use Rattle.lists.proofs.Within.{within-keeps, within-fails}
 use Rattle.slots.proofs.block_within.Statement.{statement}
 use Rattle.slots.proofs.block_within.Tie as tie
 

@@ -2,13 +2,11 @@
 -- Assumes nothing.
 use Prim.Native.Nat.{_-_, _≤_}
 use mathlib.Core.Path.{_≡_, refl, _∙_}
-use mathlib.Core.Bool.{true, false}
 use native.Mathlib.Omega.{arith}
 use lib.ListN.{length, drop}
 use borrow.Author.Needs.{needs}
 use borrow.Author.Tests.{not-true, not-false}
-use Rattle.slots.specs.Slots.{allWithin}
-use Rattle.slots.proofs.Within.{flagged}
+use Rattle.lists.specs.Within.{allWithin}
 use Rattle.slots.proofs.blocks_within.Statement.{statement}
 use Rattle.slots.proofs.blocks_within.Tie as tie
 
@@ -30,7 +28,7 @@ block-within-requires c κs = search needs
 returns : tie.Need-returns Inv-loop μ-loop
 returns c =
     let block = c .before .block-within in
-    flagged false (block .result) _ _ (not-true (block .result) (c .if1 .taken)) (block .ensures) ∙ c .before .before .before .loop .inv .0
+    rw (not-true (block .result) (c .if1 .taken)) at (block .ensures) ∙ c .before .before .before .loop .inv .0
 
 add-i : tie.Need-add-i Inv-loop μ-loop
 add-i c = search needs
@@ -41,7 +39,7 @@ loop-less c = search needs
 loop-again : tie.Need-loop-again Inv-loop μ-loop
 loop-again c =
     let block = c .before .block-within in
-    (flagged true (block .result) _ _ (not-false (block .result) (c .if1 .left)) (block .ensures) ∙ c .before .before .before .loop .inv .0, omega arith)
+    (rw (not-false (block .result) (c .if1 .left)) at (block .ensures) ∙ c .before .before .before .loop .inv .0, omega arith)
 
 rest-within-requires : tie.Need-rest-within-requires Inv-loop μ-loop
 rest-within-requires c κs = search needs

@@ -6,7 +6,7 @@ use native.Mathlib.Omega.{arith}
 use lib.ListN.{length, drop}
 use borrow.Author.Needs.{needs}
 use borrow.Author.Tests.{not-false}
-use Rattle.slots.specs.Slots.{allWithin}
+use Rattle.lists.specs.Within.{allWithin}
 use Rattle.slots.proofs.lengths_within.Statement.{statement}
 use Rattle.slots.proofs.lengths_within.Tie as tie
 

@@ -7,8 +7,8 @@ use mathlib.Core.Logic.{⊎-elim}
 use native.Mathlib.Omega.{arith}
 use lib.ListN.{length, drop}
 use borrow.Author.Needs.{needs}
-use Rattle.slots.specs.Slots.{allWithin}
-use Rattle.slots.proofs.Within.{within-keeps, within-fails, within-ends}
+use Rattle.lists.specs.Within.{allWithin}
+use Rattle.lists.proofs.Within.{within-keeps, within-fails, within-ends}
 use Rattle.slots.proofs.rest_within.Statement.{statement}
 use Rattle.slots.proofs.rest_within.Tie as tie
 

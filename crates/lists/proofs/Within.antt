@@ -1,31 +1,36 @@
--- The loops over the lengths of refusal 12's test: a turn, and the end. What is left to test, and the flag, give the test of all.
--- A block of which the bits are within the width needs no flag.
+-- Numbers that are all within a bound: as a plain fact, both ways; and the loops that test it: a turn, and the end. What is left to test,
+-- and a flag, give the test of all. A part of which the bits together are within the bound needs no flag.
 -- Assumes nothing.
-use Prim.Native.Nat.{ℕ, _+_, _≤_, _<_}
+use Prim.Native.Nat.{ℕ, zero, suc, _+_, _≤_, _<_, zero-le}
 use mathlib.Core.Path.{_≡_, refl, sym, ap, _∙_}
-use mathlib.Core.Bool.{Bool, true, false, _&&_}
-use mathlib.Core.List.{List}
+use mathlib.Core.Bool.{Bool, true, false, _&&_, and-eq-true-iff, and-true, and-false}
+use mathlib.Core.List.{List, [], _∷_}
 use native.Mathlib.Numerals.{add-one}
 use native.Mathlib.Omega.{arith}
 use lib.Bits.{bitOr, bitAnd, or-add-and, and-le-l, and-le-r}
 use lib.ListN.{length, drop, getD, drop-of-length-le}
 use lib.Seq.{drop-cons}
 use lib.Dec.{leb}
-use borrow.Author.Tests.{le-leb, lt-leb}
-use Rattle.slots.specs.Slots.{allWithin}
+use borrow.Author.Tests.{leb-true, le-leb, lt-leb}
+use Rattle.lists.specs.Within.{allWithin}
 
--- j is the index after i
+-- every number is at most w, and so is the 0 read past the end
+pub within : (w : ℕ) (ls : List ℕ) → allWithin w ls ≡ true → (i : ℕ) → getD ls i 0 ≤ w
+unfolding allWithin
+within w [] e i = zero-le
+within w (l ∷ ls) e zero = leb-true _ _ (and-eq-true-iff (leb l w) (allWithin w ls) .0 e .0)
+within w (l ∷ ls) e (suc i) = within w ls (and-eq-true-iff (leb l w) (allWithin w ls) .0 e .1) i
+
+pub is-within : (w : ℕ) (ls : List ℕ) → ((i : ℕ) → getD ls i 0 ≤ w) → allWithin w ls ≡ true
+unfolding allWithin
+is-within w [] f = refl
+is-within w (l ∷ ls) f = rw (le-leb l w (f 0)) (is-within w ls (λ i. f (suc i)))
+
+-- ---- the loops; j is the index after i
+
 within-step : (w i j : ℕ) (l : List ℕ) → j ≡ i + 1 → i < length l → allWithin w (drop i l) ≡ (leb (getD l i 0) w && allWithin w (drop j l))
 unfolding allWithin
 within-step w i j l e h = ap (allWithin w) (drop-cons l i 0 h) ∙ rw (e, add-one)
-
-and-false : (b : Bool) → (b && false) ≡ false
-and-false true = refl
-and-false false = refl
-
-and-true : (b : Bool) → (b && true) ≡ b
-and-true true = refl
-and-true false = refl
 
 pub within-keeps : (w i j : ℕ) (l : List ℕ) (ok : Bool) → j ≡ i + 1 → i < length l → getD l i 0 ≤ w → (ok && allWithin w (drop j l)) ≡ (ok && allWithin w (drop i l))
 within-keeps w i j l ok e h q = rw (within-step w i j l e h, le-leb (getD l i 0) w q)
@@ -36,10 +41,6 @@ within-fails w i l ok h q = sym (rw (within-step w i (i + 1) l refl h, lt-leb (g
 pub within-ends : (w i : ℕ) (l : List ℕ) (ok : Bool) → length l ≤ i → ok ≡ (ok && allWithin w (drop i l))
 unfolding allWithin
 within-ends w i l ok h = sym (rw (drop-of-length-le l h) (and-true ok))
-
--- a flag that is known
-pub flagged : (t b rest all : Bool) → b ≡ t → (b && rest) ≡ all → (t && rest) ≡ all
-flagged t b rest all q e = ap (λ k. k && rest) (sym q) ∙ e
 
 -- neither number is above their bits together
 below-both : (a b o n w : ℕ) → o + n ≡ a + b → n ≤ a → n ≤ b → o ≤ w → (a ≤ w) × (b ≤ w)
