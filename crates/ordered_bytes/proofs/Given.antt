@@ -17,6 +17,9 @@ use Rattle.lists.proofs.Cut.{take-cut, drop-cut, paste-part}
 use Rattle.ordered_bytes.specs.Receiver.{walk, payloads, numbersFit, base, consumed}
 use Rattle.ordered_bytes.specs.Buffer.{Buffer, slots, width, view, taken}
 use Rattle.ordered_bytes.specs.Calls.{given}
+use Rattle.ordered_bytes.specs.Steps.{WalkCopied, ReadCopied}
+use Rattle.ordered_bytes.specs.declared.stream.Walked.{Walked}
+use Rattle.ordered_bytes.specs.declared.stream.BytesRead.{BytesRead}
 use Rattle.ordered_bytes.proofs.WellFormed.{Good, is-fits}
 use Rattle.lists.proofs.Order.{either}
 use Rattle.ordered_bytes.proofs.View.{length-carry, store-long}
@@ -65,20 +68,11 @@ module _ {b : Buffer} (g : Good b) where
 
 -- ---- `consume`
 
--- what a read of `len` bytes has copied: packets, base, bytes, the output, and where in the store what it carries over stands
-abbrev pub ReadBytes : Buffer → ℕ → List ℕ → List ℕ → ℕ → ℕ → ℕ → ℕ → ℕ → Type 0
-ReadBytes b len out out′ k from n at rest =
-    (k ≡ consumed (view b) len .packets)
-    × ((from ≡ consumed (view b) len .base)
-    × ((n ≡ length (consumed (view b) len .bytes))
-    × ((out′ ≡ paste out 0 (consumed (view b) len .bytes) n)
-    × ((take rest (drop at (b .store)) ≡ consumed (view b) len .carry) × ((at + rest ≤ length (b .store)) × (rest ≤ width b))))))
-
 module _ {b : Buffer} (g : Good b) (len : ℕ) (out : List ℕ) where
   -- "A carry-over longer than the length gives that many bytes"
   pub part-read : {out′ : List ℕ} {part : ℕ} → len < b .state .«carry_len» → part ≡ min (b .state .«carry_len») len
       → out′ ≡ paste out 0 (drop (slots b * width b) (b .store)) part
-      → ReadBytes b len out out′ 0 0 len (slots b * width b + len) (b .state .«carry_len» - len)
+      → ReadCopied b len out out′ (record { packets = 0; base = 0; bytes = len; «rest_at» = slots b * width b + len; rest = b .state .«carry_len» - len })
   part-read {out′} {part} less cut pasted =
       let at = slots b * width b in
       let some : min (b .state .«carry_len») len ≡ len = omega arith in
@@ -90,37 +84,47 @@ module _ {b : Buffer} (g : Good b) (len : ℕ) (out : List ℕ) where
       let gave : out′ ≡ paste out 0 (take len (view b .carry)) len =
       rw all at pasted ∙ paste-part out (drop at (b .store)) (take len (view b .carry)) 0 len bytes long ∙ ap (paste out 0 (take len (view b .carry))) long in
       rw (consumed-part (view b) len (rw (length-carry g) less))
-      (refl, (refl, (sym long, (gave, (rest, (omega (arith, carry-in g), omega (arith, g .carry-w)))))))
+      (record {
+        packets = refl;
+        base = refl;
+        bytes = sym long;
+        copied = gave;
+        carry = record { are = rest; within = omega (arith, carry-in g); small = omega (arith, g .carry-w) };
+      })
 
   -- "Otherwise the carry-over is taken whole, then held packets"
-  pub whole-read : (at rest : ℕ) {out₁ out′ : List ℕ} {part k from n : ℕ} → b .state .«carry_len» ≤ len → len ≤ length out → part ≡ min (b .state .«carry_len») len
+  pub whole-read : {w : Walked} {out₁ out′ : List ℕ} {part from : ℕ} → b .state .«carry_len» ≤ len → len ≤ length out → part ≡ min (b .state .«carry_len») len
       → out₁ ≡ paste out 0 (drop (slots b * width b) (b .store)) part
-      → let w = walk (len - b .state .«carry_len») (view b .held) in
-      (k ≡ w .packets) × ((n ≡ length (w .bytes)) × ((out′ ≡ paste out₁ (b .state .«carry_len») (w .bytes) n)
-      × ((take rest (drop at (b .store)) ≡ w .rest) × ((at + rest ≤ length (b .store)) × (rest ≤ width b)))))
+      → WalkCopied b (len - b .state .«carry_len») (b .state .«carry_len») out₁ out′ w
       → from ≡ base (view b)
-      → ReadBytes b len out out′ k from (b .state .«carry_len» + n) at rest
-  whole-read at rest {out₁} {out′} {part} {k} {from} {n} whole room cut first w based =
+      → ReadCopied b len out out′ (record { packets = w .packets; base = from; bytes = b .state .«carry_len» + w .bytes; «rest_at» = w .«rest_at»; rest = w .rest })
+  whole-read {w} {out₁} {out′} {part} whole room cut first e based =
       let c = b .state .«carry_len» in
       let x = walk (len - c) (view b .held) .bytes in
       let all : part ≡ c = omega arith in
-      let long : c + n ≡ length (view b .carry ++ x) = sym (rw (length-append, length-carry g, w .1 .0)) in
+      let long : c + w .bytes ≡ length (view b .carry ++ x) = sym (rw (length-append, length-carry g, e .bytes)) in
       let gave : out′ ≡ paste out 0 (view b .carry ++ x) (length (view b .carry ++ x)) =
-      carry-then g x out (omega arith) (rw all at first) (w .1 .1 .0 ∙ ap (paste out₁ c x) (w .1 .0)) in
+      carry-then g x out (omega arith) (rw all at first) (e .copied ∙ ap (paste out₁ c x) (e .bytes)) in
       rw (consumed-whole (view b) len (rw (length-carry g) whole), length-carry g)
-      (w .0, (based, (long, (gave ∙ ap (paste out 0 (view b .carry ++ x)) (sym long), w .1 .1 .1))))
+      (record {
+        packets = e .packets;
+        base = based;
+        bytes = long;
+        copied = gave ∙ ap (paste out 0 (view b .carry ++ x)) (sym long);
+        carry = e .rest;
+      })
 
   -- the answer, the buffer and the output
-  pub read-given : {k n from : ℕ} {rest : List ℕ} {said : Said (ℕ × ℕ × ℕ)} {out′ : List ℕ} {after : Buffer}
-      → k ≡ consumed (view b) len .packets
-      → n ≡ length (consumed (view b) len .bytes)
-      → rest ≡ consumed (view b) len .carry
-      → from ≡ consumed (view b) len .base
-      → said ≡ cond (ltb len (b .state .«carry_len»)) (answers (k, from, n)) (cond (eqb n 0) (refuses 8) (answers (k, from, n)))
-      → out′ ≡ paste out 0 (consumed (view b) len .bytes) n
-      → after ≡ taken b k rest
+  pub read-given : {r : BytesRead} {said : Said (ℕ × ℕ × ℕ)} {out′ : List ℕ} {after : Buffer} → ReadCopied b len out out′ r → let v : ℕ × ℕ × ℕ = (r .packets, r .base, r .bytes) in
+      said ≡ cond (ltb len (b .state .«carry_len»)) (answers v) (cond (eqb (r .bytes) 0) (refuses 8) (answers v))
+      → after ≡ taken b (r .packets) (take (r .rest) (drop (r .«rest_at») (b .store)))
       → record { said = said; buffer = after; out = out′ } ≡ given b (consumed (view b) len) out
-  read-given packets bytes kept based say gave left =
-      either (b .state .«carry_len») len
-      (λ whole. rw (left, gave, say, packets, bytes, kept, based, le-ltb len (b .state .«carry_len») whole, consumed-whole (view b) len (let z : length (view b .carry) ≤ len = rw (length-carry g) whole in z)))
-      (λ part. rw (left, gave, say, packets, bytes, kept, based, lt-ltb len (b .state .«carry_len») part, consumed-part (view b) len (let z : len < length (view b .carry) = rw (length-carry g) part in z)))
+  read-given e say left =
+      let c = b .state .«carry_len» in
+      either c len
+      (λ whole.
+      let is = consumed-whole (view b) len (rw (length-carry g) whole) in
+      rw (left, e .copied, say, e .packets, e .bytes, e .carry .are, e .base, le-ltb len c whole, is))
+      (λ part.
+      let is = consumed-part (view b) len (rw (length-carry g) part) in
+      rw (left, e .copied, say, e .packets, e .bytes, e .carry .are, e .base, lt-ltb len c part, is))

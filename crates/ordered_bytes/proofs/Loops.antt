@@ -14,6 +14,7 @@ use Rattle.lists.proofs.Paste.{length-part, paste-behind}
 use Rattle.lists.proofs.Cut.{take-cut, drop-cut, paste-part}
 use Rattle.ordered_bytes.specs.Receiver.{Walk, walk, nothing}
 use Rattle.ordered_bytes.specs.Buffer.{Buffer, slots, width, wrap, slotAt, view}
+use Rattle.ordered_bytes.specs.Steps.{WalkCopied}
 use Rattle.ordered_bytes.proofs.WellFormed.{Good}
 use Rattle.lists.proofs.Order.{either}
 use Rattle.slots.proofs.Ring.{wrap-on}
@@ -132,7 +133,7 @@ module _ {b : Buffer} (g : Good b) {room at : ℕ} {buf₀ buf : List ℕ} {slot
       }
 
   -- nothing more to take
-  pub walking-ends : (slots b ≤ packets) ⊎ ((room ≤ given) ⊎ ((packets < slots b) × (getD (b .marks) slot false ≡ false))) → remaining b room packets given ≡ nothing
+  walking-ends : (slots b ≤ packets) ⊎ ((room ≤ given) ⊎ ((packets < slots b) × (getD (b .marks) slot false ≡ false))) → remaining b room packets given ≡ nothing
   walking-ends (inl past) =
       let all : length (view b .held) ≤ packets = rw (length-held b) past in
       rw (drop-of-length-le (view b .held) all) (walk-empty (room - given))
@@ -140,19 +141,20 @@ module _ {b : Buffer} (g : Good b) {room at : ℕ} {buf₀ buf : List ℕ} {slot
   walking-ends (inr (inr free)) = walk-none (view b .held) packets (room - given) (free-in b (free .0) (s .here) (free .1))
 
   -- what the loop leaves then
-  pub walking-done : remaining b room packets given ≡ nothing → let all = walk room (view b .held) in
-      (packets ≡ all .packets) × ((given ≡ length (all .bytes)) × ((buf ≡ paste buf₀ at (all .bytes) given)
-      × ((take rest (drop restAt (b .store)) ≡ all .rest) × ((restAt + rest ≤ length (b .store)) × (rest ≤ width b)))))
-  walking-done done =
+  pub walking-done : (slots b ≤ packets) ⊎ ((room ≤ given) ⊎ ((packets < slots b) × (getD (b .marks) slot false ≡ false)))
+      → WalkCopied b room at buf₀ buf (record { packets = packets; bytes = given; «rest_at» = restAt; rest = rest })
+  walking-done end =
+      let done = walking-ends end in
       let counted = rw done at (s .counted) in
       let counted-bytes = rw done at (s .counted-bytes) in
-      let bytes : given ≡ length (walk room (view b .held) .bytes) = omega arith in (
-        omega arith,
-        (
-          bytes,
-          (
-            paste-zero buf (at + given) [] ∙ rw done at (s .out) ∙ ap (paste buf₀ at (walk room (view b .held) .bytes)) (sym bytes),
-            (sym (append-nil (take rest (drop restAt (b .store)))) ∙ rw done at (s .kept), (s .within, s .small)),
-          ),
-        ),
-      )
+      let bytes : given ≡ length (walk room (view b .held) .bytes) = omega arith in
+      record {
+        packets = omega arith;
+        bytes = bytes;
+        copied = paste-zero buf (at + given) [] ∙ rw done at (s .out) ∙ ap (paste buf₀ at (walk room (view b .held) .bytes)) (sym bytes);
+        rest = record {
+          are = sym (append-nil (take rest (drop restAt (b .store)))) ∙ rw done at (s .kept);
+          within = s .within;
+          small = s .small;
+        };
+      }

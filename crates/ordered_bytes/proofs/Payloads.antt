@@ -14,6 +14,7 @@ use Rattle.lists.proofs.Flatten.{flatten-nil, flatten-cons}
 use Rattle.lists.proofs.Cut.{paste-part, paste-cons}
 use Rattle.ordered_bytes.specs.Receiver.{payloads}
 use Rattle.ordered_bytes.specs.Buffer.{Buffer, slots, width, wrap, slotAt, view}
+use Rattle.ordered_bytes.specs.Steps.{heldPayloads, PayloadsCounted, RoomFor, PiecesCopied}
 use Rattle.ordered_bytes.proofs.WellFormed.{Good}
 use Rattle.slots.proofs.Ring.{wrap-on}
 use Rattle.ordered_bytes.proofs.View.{slot-below, length-in-slot, length-held}
@@ -81,18 +82,20 @@ module _ {b : Buffer} (g : Good b) {most slot packets bytes : ℕ} (s : CountSta
         small = omega (arith, g .lengths-w slot, g .shape .small-width);
       }
 
-  pub counting-ends : (slots b ≤ packets) ⊎ ((most ≤ packets) ⊎ ((packets < slots b) × (getD (b .marks) slot false ≡ false))) → remaining b most packets ≡ []
+  counting-ends : (slots b ≤ packets) ⊎ ((most ≤ packets) ⊎ ((packets < slots b) × (getD (b .marks) slot false ≡ false))) → remaining b most packets ≡ []
   counting-ends (inl past) =
       let all : length (view b .held) ≤ packets = rw (length-held b) past in
       rw (drop-of-length-le (view b .held) all) (payloads-none [] 0 (most - packets) refl)
   counting-ends (inr (inl full)) = let none-left : most - packets ≡ 0 = omega arith in rw none-left (payloads-full (drop packets (view b .held)))
   counting-ends (inr (inr free)) = payloads-none (view b .held) packets (most - packets) (free-in b (free .0) (s .here) (free .1))
 
-  pub counting-done : remaining b most packets ≡ [] → let all = payloads most (view b .held) in (packets ≡ length all) × ((bytes ≡ length (flatten all)) × (bytes ≤ 131070000))
-  counting-done done =
+  pub counting-done : (slots b ≤ packets) ⊎ ((most ≤ packets) ⊎ ((packets < slots b) × (getD (b .marks) slot false ≡ false)))
+      → PayloadsCounted (heldPayloads b most) (record { packets = packets; bytes = bytes })
+  counting-done end =
+      let done = counting-ends end in
       let counted = rw done at (s .counted) in
       let counted-bytes = rw (done, flatten-nil) at (s .counted-bytes) in
-      (omega arith, (omega arith, omega (arith, s .few, s .small, g .shape .few-slots)))
+      record { packets = omega arith; bytes = omega arith; few = omega (arith, s .few, s .small, g .shape .few-slots) }
 
 -- ---- copying
 
@@ -103,7 +106,7 @@ pub record Copying (b : Buffer) (packets at first : ℕ) (buf₀ buf list₀ lis
   pub counted-bytes : given + length (flatten left) ≡ at + length (flatten all)
   pub out : paste buf given (flatten left) (length (flatten left)) ≡ paste buf₀ at (flatten all) (length (flatten all))
   pub long : length buf ≡ length buf₀
-  pub cells : paste list (first + done) (map length left) (length left) ≡ paste list₀ first (map length all) packets
+  pub cells : paste list (first + done) (map length left) (length left) ≡ paste list₀ first (map length all) (length all)
   pub list-long : length list ≡ length list₀
 
 abbrev pub CopyState : Buffer → ℕ → ℕ → ℕ → List ℕ → List ℕ → List ℕ → List ℕ → ℕ → ℕ → ℕ → Type 0
@@ -120,13 +123,12 @@ copying-starts g packets at first buf list were =
       counted-bytes = rw sub-zero;
       out = rw sub-zero;
       long = refl;
-      cells = rw (sub-zero, add-zero, were);
+      cells = rw (sub-zero, add-zero);
       list-long = refl;
     }
 
 module _ {b : Buffer} (g : Good b) {packets at first : ℕ} {buf₀ buf list₀ list : List ℕ} {slot given done : ℕ}
-    (all-held : length (payloads packets (view b .held)) ≡ packets)
-    (fits : at + length (flatten (payloads packets (view b .held))) ≤ length buf₀) (room : first + packets ≤ length list₀)
+    (all-held : length (heldPayloads b packets) ≡ packets) (room : RoomFor (heldPayloads b packets) buf₀ at list₀ first)
     (s : CopyState b packets at first buf₀ buf list₀ list slot given done) (more : done < packets) where
   pub copying-below : done < slots b
   copying-below = omega (arith, payloads-most packets (view b .held) .1, length-held b)
@@ -175,9 +177,8 @@ module _ {b : Buffer} (g : Good b) {packets at first : ℕ} {buf₀ buf list₀ 
 
 -- all copied
 pub copying-done : {b : Buffer} {packets at first : ℕ} {buf₀ buf list₀ list : List ℕ} {slot given done : ℕ}
-    → CopyState b packets at first buf₀ buf list₀ list slot given done → packets ≤ done → let all = payloads packets (view b .held) in
-    (buf ≡ paste buf₀ at (flatten all) (length (flatten all))) × (list ≡ paste list₀ first (map length all) packets)
+    → CopyState b packets at first buf₀ buf list₀ list slot given done → packets ≤ done → PiecesCopied (heldPayloads b packets) buf₀ buf at list₀ list first
 copying-done {b} {packets} {first = first} {buf = buf} {list = list} {given = given} {done = done} s end =
     let none-left : packets - done ≡ 0 = omega arith in
     let nothing : remaining b packets done ≡ [] = rw none-left (payloads-full (drop done (view b .held))) in
-    (paste-zero buf given [] ∙ rw (nothing, flatten-nil) at (s .out), paste-zero list (first + done) [] ∙ rw nothing at (s .cells))
+    record { bytes = paste-zero buf given [] ∙ rw (nothing, flatten-nil) at (s .out); cells = paste-zero list (first + done) [] ∙ rw nothing at (s .cells) }

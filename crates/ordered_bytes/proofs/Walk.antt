@@ -221,7 +221,8 @@ took-walk r {w = w} k = record {
   first = base-first r (w .packets) (k .were);
 }
 
-flatten-carry : (c : List ℕ) (ps : List (List ℕ)) → flatten (carryPiece c ++ ps) ≡ c ++ flatten ps
+-- the carry-over as a piece, and payloads, end to end
+pub flatten-carry : (c : List ℕ) (ps : List (List ℕ)) → flatten (carryPiece c ++ ps) ≡ c ++ flatten ps
 unfolding flatten
 flatten-carry [] ps = refl
 flatten-carry (b ∷ bs) ps = refl

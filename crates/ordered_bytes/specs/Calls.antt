@@ -21,8 +21,10 @@ use Rattle.ordered_bytes.specs.declared.ConsumeAnswer.{ConsumeAnswer}
 use Rattle.ordered_bytes.specs.declared.ConsumeAnswer.the-variants as consume
 use Rattle.ordered_bytes.specs.declared.ConsumeBytesAnswer.{ConsumeBytesAnswer}
 use Rattle.ordered_bytes.specs.declared.ConsumeBytesAnswer.the-variants as consumeBytes
+use Rattle.ordered_bytes.specs.declared.Consumed.{Consumed}
+use Rattle.ordered_bytes.specs.declared.ConsumedBytes.{ConsumedBytes}
 use Rattle.ordered_bytes.specs.Receiver.{Read, acceptChecks, consumed, consumedPieces, pieces, available, anyHeld}
-use Rattle.ordered_bytes.specs.Buffer.{Buffer, view, wellFormed, shapeFits, slotAt, stored, taken}
+use Rattle.ordered_bytes.specs.Buffer.{Buffer, bufferOf, view, wellFormed, shapeFits, slotAt, stored, taken}
 
 -- ---- the answers in document 01's terms
 
@@ -63,6 +65,10 @@ pub record Creation : Type 0 where
   pub marks : List Bool
   pub lengths : List ℕ
 
+-- what a call answered, and the lent lists as it left them, are one such record
+abbrev pub creationOf : Created → List Bool → List ℕ → Creation
+creationOf r marks lengths = record { said = createdSays r; marks = marks; lengths = lengths }
+
 unfoldable pub creating : ℕ → ℕ → List Bool → List ℕ → List ℕ → Creation
 creating w s marks lengths store =
     checks ((not (shapeFits w marks lengths store), 12) ∷ [])
@@ -89,6 +95,9 @@ pub record Acceptance : Type 0 where
   pub said : Said Unit
   pub buffer : Buffer
 
+abbrev pub acceptanceOf : Accepted → OrderedBytes → List Bool → List ℕ → List ℕ → Acceptance
+acceptanceOf r o marks lengths store = record { said = acceptedSays r; buffer = bufferOf o marks lengths store }
+
 unfoldable pub accepting : Buffer → ℕ → List ℕ → Acceptance
 accepting b n payload =
     checks ((not (wellFormed b), 12) ∷ acceptChecks (view b) n payload)
@@ -102,6 +111,9 @@ pub record Consumption : Type 0 where
   pub said : Said (ℕ × ℕ × ℕ)
   pub buffer : Buffer
   pub out : List ℕ
+
+abbrev pub consumptionOf : Consumed → List Bool → List ℕ → List ℕ → List ℕ → Consumption
+consumptionOf r marks lengths store out = record { said = consumedSays (r .answer); buffer = bufferOf (r .state) marks lengths store; out = out }
 
 -- what is given stands at the start of the output, whose other bytes stay
 abbrev pub given : Buffer → Read → List ℕ → Consumption
@@ -123,6 +135,14 @@ pub record PieceConsumption : Type 0 where
   pub buffer : Buffer
   pub out : List ℕ
   pub list : List ℕ
+
+abbrev pub pieceConsumptionOf : ConsumedBytes → List Bool → List ℕ → List ℕ → List ℕ → List ℕ → PieceConsumption
+pieceConsumptionOf r marks lengths store out list = record {
+  said = consumedBytesSays (r .answer);
+  buffer = bufferOf (r .state) marks lengths store;
+  out = out;
+  list = list;
+}
 
 -- "Pieces are copied to a lent buffer, their lengths to a lent list (32 bits each; 10 if either is short). No piece: 8."
 unfoldable pub consumingBytes : Buffer → ℕ → List ℕ → List ℕ → PieceConsumption

@@ -1,3 +1,4 @@
 pub mod Receiver
 pub mod Buffer
 pub mod Calls
+pub mod Steps

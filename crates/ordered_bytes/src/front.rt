@@ -32,7 +32,8 @@ pub fn take_packets(
 ) -> OrderedBytes
     requires { ⌜ wellFormed (bufferOf o (now marks) (now lengths) (now store)) ≡ true ⌝ }
     requires { ⌜ (packets ≤ length (now marks)) × (o .«front_number» + packets ≤ largest) × («rest_at» + rest ≤ length (now store)) × (rest ≤ o .«slot_width») ⌝ }
-    ensures { λ r. ⌜ bufferOf r (now (marks .exit)) (now (lengths .exit)) (now (store .exit)) ≡ taken (bufferOf o (now (marks .entry)) (now (lengths .entry)) (now (store .entry))) packets (take rest (drop «rest_at» (now (store .entry)))) ⌝ }
+    ensures { λ r. ⌜ bufferOf r (now (marks .exit)) (now (lengths .exit)) (now (store .exit))
+        ≡ taken (bufferOf o (now (marks .entry)) (now (lengths .entry)) (now (store .entry))) packets (take rest (drop «rest_at» (now (store .entry)))) ⌝ }
 {
     let n = marks.len();
     let slot_width = o.slot_width;

@@ -4,7 +4,8 @@
 ghost use mathlib.Core.Path.{_≡_};
 ghost use mathlib.Core.Bool.{true};
 ghost use Rattle.ordered_bytes.specs.Buffer.{bufferOf, wellFormed};
-ghost use Rattle.ordered_bytes.specs.Calls.{createdSays, startedSays, acceptedSays, peekedSays, consumedSays, consumedBytesSays, creating, starting, accepting, peeking, consuming, consumingBytes};
+ghost use Rattle.ordered_bytes.specs.Calls.{creationOf, creating, startedSays, starting, acceptanceOf, accepting, peekedSays, peeking};
+ghost use Rattle.ordered_bytes.specs.Calls.{consumptionOf, consuming, pieceConsumptionOf, consumingBytes};
 use refusal::Refusal;
 
 mod front;
@@ -97,7 +98,7 @@ pub fn new(
     lengths: &mut [u32],
     store: &[u8],
 ) -> Created
-    ensures { λ r. ⌜ record { said = createdSays r; marks = now (marks .exit); lengths = now (lengths .exit) } ≡ creating «slot_width» «start_packet_number» (now (marks .entry)) (now (lengths .entry)) (now (store .entry)) ⌝ }
+    ensures { λ r. ⌜ creationOf r (now (marks .exit)) (now (lengths .exit)) ≡ creating «slot_width» «start_packet_number» (now (marks .entry)) (now (lengths .entry)) (now (store .entry)) ⌝ }
 {
     if !slots::shape_fits(slot_width, marks, lengths, store) {
         return Created::Refused(Refusal::Malformed);
@@ -144,7 +145,8 @@ pub fn buffer_in_packet(
     lengths: &mut [u32],
     store: &mut [u8],
 ) -> Accepted
-    ensures { λ r. ⌜ record { said = acceptedSays r; buffer = bufferOf o (now (marks .exit)) (now (lengths .exit)) (now (store .exit)) } ≡ accepting (bufferOf o (now (marks .entry)) (now (lengths .entry)) (now (store .entry))) n (now (payload .entry)) ⌝ }
+    ensures { λ r. ⌜ acceptanceOf r o (now (marks .exit)) (now (lengths .exit)) (now (store .exit))
+        ≡ accepting (bufferOf o (now (marks .entry)) (now (lengths .entry)) (now (store .entry))) n (now (payload .entry)) ⌝ }
 {
     if !well_formed(o, marks, lengths, store) {
         return Accepted::Refused(Refusal::Malformed);
@@ -162,7 +164,8 @@ pub fn buffer_in_packet_unchecked(
     store: &mut [u8],
 ) -> Accepted
     requires { ⌜ wellFormed (bufferOf o (now marks) (now lengths) (now store)) ≡ true ⌝ }
-    ensures { λ r. ⌜ record { said = acceptedSays r; buffer = bufferOf o (now (marks .exit)) (now (lengths .exit)) (now (store .exit)) } ≡ accepting (bufferOf o (now (marks .entry)) (now (lengths .entry)) (now (store .entry))) n (now (payload .entry)) ⌝ }
+    ensures { λ r. ⌜ acceptanceOf r o (now (marks .exit)) (now (lengths .exit)) (now (store .exit))
+        ≡ accepting (bufferOf o (now (marks .entry)) (now (lengths .entry)) (now (store .entry))) n (now (payload .entry)) ⌝ }
 {
     let front_number = o.front_number;
     if n < front_number {
@@ -220,7 +223,8 @@ pub fn consume(
     lengths: &mut [u32],
     store: &mut [u8],
 ) -> Consumed
-    ensures { λ r. ⌜ record { said = consumedSays (r .answer); buffer = bufferOf (r .state) (now (marks .exit)) (now (lengths .exit)) (now (store .exit)); out = now (buf .exit) } ≡ consuming (bufferOf o (now (marks .entry)) (now (lengths .entry)) (now (store .entry))) len (now (buf .entry)) ⌝ }
+    ensures { λ r. ⌜ consumptionOf r (now (marks .exit)) (now (lengths .exit)) (now (store .exit)) (now (buf .exit))
+        ≡ consuming (bufferOf o (now (marks .entry)) (now (lengths .entry)) (now (store .entry))) len (now (buf .entry)) ⌝ }
 {
     if !well_formed(o, marks, lengths, store) {
         return Consumed {
@@ -241,7 +245,8 @@ pub fn consume_unchecked(
     store: &mut [u8],
 ) -> Consumed
     requires { ⌜ wellFormed (bufferOf o (now marks) (now lengths) (now store)) ≡ true ⌝ }
-    ensures { λ r. ⌜ record { said = consumedSays (r .answer); buffer = bufferOf (r .state) (now (marks .exit)) (now (lengths .exit)) (now (store .exit)); out = now (buf .exit) } ≡ consuming (bufferOf o (now (marks .entry)) (now (lengths .entry)) (now (store .entry))) len (now (buf .entry)) ⌝ }
+    ensures { λ r. ⌜ consumptionOf r (now (marks .exit)) (now (lengths .exit)) (now (store .exit)) (now (buf .exit))
+        ≡ consuming (bufferOf o (now (marks .entry)) (now (lengths .entry)) (now (store .entry))) len (now (buf .entry)) ⌝ }
 {
     if buf.len() < len {
         return Consumed {
@@ -266,7 +271,8 @@ pub fn consume_bytes(
     lengths: &mut [u32],
     store: &mut [u8],
 ) -> ConsumedBytes
-    ensures { λ r. ⌜ record { said = consumedBytesSays (r .answer); buffer = bufferOf (r .state) (now (marks .exit)) (now (lengths .exit)) (now (store .exit)); out = now (buf .exit); list = now (list .exit) } ≡ consumingBytes (bufferOf o (now (marks .entry)) (now (lengths .entry)) (now (store .entry))) limit (now (buf .entry)) (now (list .entry)) ⌝ }
+    ensures { λ r. ⌜ pieceConsumptionOf r (now (marks .exit)) (now (lengths .exit)) (now (store .exit)) (now (buf .exit)) (now (list .exit))
+        ≡ consumingBytes (bufferOf o (now (marks .entry)) (now (lengths .entry)) (now (store .entry))) limit (now (buf .entry)) (now (list .entry)) ⌝ }
 {
     if !well_formed(o, marks, lengths, store) {
         return ConsumedBytes {
@@ -288,7 +294,8 @@ pub fn consume_bytes_unchecked(
     store: &mut [u8],
 ) -> ConsumedBytes
     requires { ⌜ wellFormed (bufferOf o (now marks) (now lengths) (now store)) ≡ true ⌝ }
-    ensures { λ r. ⌜ record { said = consumedBytesSays (r .answer); buffer = bufferOf (r .state) (now (marks .exit)) (now (lengths .exit)) (now (store .exit)); out = now (buf .exit); list = now (list .exit) } ≡ consumingBytes (bufferOf o (now (marks .entry)) (now (lengths .entry)) (now (store .entry))) limit (now (buf .entry)) (now (list .entry)) ⌝ }
+    ensures { λ r. ⌜ pieceConsumptionOf r (now (marks .exit)) (now (lengths .exit)) (now (store .exit)) (now (buf .exit)) (now (list .exit))
+        ≡ consumingBytes (bufferOf o (now (marks .entry)) (now (lengths .entry)) (now (store .entry))) limit (now (buf .entry)) (now (list .entry)) ⌝ }
 {
     let p = pieces::count_pieces(o, limit, marks, lengths, store);
     let answer = pieces::consume_bytes_answer(p, buf.len(), list.len());

@@ -3,15 +3,13 @@
 // Proved: the pieces counted and copied, their lengths and the answer are the definition's.
 ghost use mathlib.Core.Path.{_≡_};
 ghost use mathlib.Core.Bool.{true, cond};
-ghost use mathlib.Core.List.{[], _∷_, map, _++_, flatten};
-ghost use Prim.Native.Nat.{_+_, _-_, _≤_};
+ghost use Prim.Native.Nat.{_-_, _≤_};
 ghost use lib.ListN.{length, set};
-ghost use lib.Seq.{paste};
-ghost use lib.Dec.{ltb, eqb};
+ghost use lib.Dec.{eqb};
 ghost use Rattle.refusal.specs.Said.{answers, refuses, checks};
-ghost use Rattle.ordered_bytes.specs.Receiver.{payloads, carryPiece, takenPayloads, pieces, base};
-ghost use Rattle.ordered_bytes.specs.Buffer.{bufferOf, view, wellFormed};
+ghost use Rattle.ordered_bytes.specs.Buffer.{bufferOf, wellFormed};
 ghost use Rattle.ordered_bytes.specs.Calls.{consumedBytesSays};
+ghost use Rattle.ordered_bytes.specs.Steps.{heldPayloads, piecesOf, pieceChecks, piecesSays, PayloadsCounted, PiecesCounted, RoomFor, PiecesCopied};
 use crate::ConsumeBytesAnswer;
 use crate::ConsumeResult;
 use crate::OrderedBytes;
@@ -53,9 +51,7 @@ fn count_payloads(
     store: &[u8],
 ) -> Payloads
     requires { ⌜ wellFormed (bufferOf o (now marks) (now lengths) (now store)) ≡ true ⌝ }
-    ensures { λ r. ⌜ r .packets ≡ length (payloads most (view (bufferOf o (now (marks .entry)) (now (lengths .entry)) (now (store .entry))) .held)) ⌝ }
-    ensures { λ r. ⌜ r .bytes ≡ length (flatten (payloads most (view (bufferOf o (now (marks .entry)) (now (lengths .entry)) (now (store .entry))) .held))) ⌝ }
-    ensures { λ r. ⌜ r .bytes ≤ 131070000 ⌝ }
+    ensures { λ r. ⌜ PayloadsCounted (heldPayloads (bufferOf o (now (marks .entry)) (now (lengths .entry)) (now (store .entry))) most) r ⌝ }
 {
     let n = marks.len();
     let mut slot = o.front_slot;
@@ -81,10 +77,7 @@ pub fn count_pieces(
     store: &[u8],
 ) -> Pieces
     requires { ⌜ wellFormed (bufferOf o (now marks) (now lengths) (now store)) ≡ true ⌝ }
-    ensures { λ r. ⌜ r .packets ≡ length (takenPayloads (view (bufferOf o (now (marks .entry)) (now (lengths .entry)) (now (store .entry)))) limit) ⌝ }
-    ensures { λ r. ⌜ r .pieces ≡ length (pieces (view (bufferOf o (now (marks .entry)) (now (lengths .entry)) (now (store .entry)))) limit) ⌝ }
-    ensures { λ r. ⌜ r .bytes ≡ length (flatten (pieces (view (bufferOf o (now (marks .entry)) (now (lengths .entry)) (now (store .entry)))) limit)) ⌝ }
-    ensures { λ r. ⌜ r .base ≡ base (view (bufferOf o (now (marks .entry)) (now (lengths .entry)) (now (store .entry)))) ⌝ }
+    ensures { λ r. ⌜ PiecesCounted (bufferOf o (now (marks .entry)) (now (lengths .entry)) (now (store .entry))) limit r ⌝ }
 {
     let first = carry_pieces(o.carry_len);
     let p = count_payloads(o, saturating_sub(limit, first), marks, lengths, store);
@@ -98,7 +91,7 @@ pub fn count_pieces(
 
 // "10 if either is short", and "no piece: 8".
 pub fn consume_bytes_answer(p: Pieces, room: usize, cells: usize) -> ConsumeBytesAnswer
-    ensures { λ r. ⌜ consumedBytesSays r ≡ checks ((ltb room (p .bytes), 10) ∷ (ltb cells (p .pieces), 10) ∷ (eqb (p .pieces) 0, 8) ∷ []) refuses (answers ((p .packets, p .base, p .bytes), p .pieces)) ⌝ }
+    ensures { λ r. ⌜ consumedBytesSays r ≡ checks (pieceChecks room cells (p .bytes) (p .pieces)) refuses (answers (piecesSays p)) ⌝ }
 {
     if room < p.bytes {
         return ConsumeBytesAnswer::Refused(Refusal::BufferShort);
@@ -131,10 +124,10 @@ fn copy_payloads(
     lengths: &[u32],
     store: &[u8],
 )
-    requires { ⌜ (wellFormed (bufferOf o (now marks) (now lengths) (now store)) ≡ true) × (length (payloads packets (view (bufferOf o (now marks) (now lengths) (now store)) .held)) ≡ packets) ⌝ }
-    requires { ⌜ (at + length (flatten (payloads packets (view (bufferOf o (now marks) (now lengths) (now store)) .held))) ≤ length (now buf)) × (first + packets ≤ length (now list)) ⌝ }
-    ensures { λ _. ⌜ now (buf .exit) ≡ paste (now (buf .entry)) at (flatten (payloads packets (view (bufferOf o (now (marks .entry)) (now (lengths .entry)) (now (store .entry))) .held))) (length (flatten (payloads packets (view (bufferOf o (now (marks .entry)) (now (lengths .entry)) (now (store .entry))) .held)))) ⌝ }
-    ensures { λ _. ⌜ now (list .exit) ≡ paste (now (list .entry)) first (map length (payloads packets (view (bufferOf o (now (marks .entry)) (now (lengths .entry)) (now (store .entry))) .held))) packets ⌝ }
+    requires { ⌜ (wellFormed (bufferOf o (now marks) (now lengths) (now store)) ≡ true) × (length (heldPayloads (bufferOf o (now marks) (now lengths) (now store)) packets) ≡ packets) ⌝ }
+    requires { ⌜ RoomFor (heldPayloads (bufferOf o (now marks) (now lengths) (now store)) packets) (now buf) at (now list) first ⌝ }
+    ensures { λ _. ⌜ PiecesCopied (heldPayloads (bufferOf o (now (marks .entry)) (now (lengths .entry)) (now (store .entry))) packets)
+        (now (buf .entry)) (now (buf .exit)) at (now (list .entry)) (now (list .exit)) first ⌝ }
 {
     let n = marks.len();
     let mut slot = o.front_slot;
@@ -173,10 +166,10 @@ pub fn copy_pieces(
     lengths: &[u32],
     store: &[u8],
 )
-    requires { ⌜ (wellFormed (bufferOf o (now marks) (now lengths) (now store)) ≡ true) × (length (payloads packets (view (bufferOf o (now marks) (now lengths) (now store)) .held)) ≡ packets) ⌝ }
-    requires { ⌜ (o .«carry_len» + length (flatten (payloads packets (view (bufferOf o (now marks) (now lengths) (now store)) .held))) ≤ length (now buf)) × (cond (eqb (o .«carry_len») 0) 0 1 + packets ≤ length (now list)) ⌝ }
-    ensures { λ _. ⌜ now (buf .exit) ≡ paste (now (buf .entry)) 0 (view (bufferOf o (now (marks .entry)) (now (lengths .entry)) (now (store .entry))) .carry ++ flatten (payloads packets (view (bufferOf o (now (marks .entry)) (now (lengths .entry)) (now (store .entry))) .held))) (length (view (bufferOf o (now (marks .entry)) (now (lengths .entry)) (now (store .entry))) .carry ++ flatten (payloads packets (view (bufferOf o (now (marks .entry)) (now (lengths .entry)) (now (store .entry))) .held)))) ⌝ }
-    ensures { λ _. ⌜ now (list .exit) ≡ paste (now (list .entry)) 0 (map length (carryPiece (view (bufferOf o (now (marks .entry)) (now (lengths .entry)) (now (store .entry))) .carry) ++ payloads packets (view (bufferOf o (now (marks .entry)) (now (lengths .entry)) (now (store .entry))) .held))) (length (carryPiece (view (bufferOf o (now (marks .entry)) (now (lengths .entry)) (now (store .entry))) .carry) ++ payloads packets (view (bufferOf o (now (marks .entry)) (now (lengths .entry)) (now (store .entry))) .held))) ⌝ }
+    requires { ⌜ (wellFormed (bufferOf o (now marks) (now lengths) (now store)) ≡ true) × (length (heldPayloads (bufferOf o (now marks) (now lengths) (now store)) packets) ≡ packets) ⌝ }
+    requires { ⌜ RoomFor (piecesOf (bufferOf o (now marks) (now lengths) (now store)) packets) (now buf) 0 (now list) 0 ⌝ }
+    ensures { λ _. ⌜ PiecesCopied (piecesOf (bufferOf o (now (marks .entry)) (now (lengths .entry)) (now (store .entry))) packets)
+        (now (buf .entry)) (now (buf .exit)) 0 (now (list .entry)) (now (list .exit)) 0 ⌝ }
 {
     let carry_len = o.carry_len;
     parts::copy_part(store, marks.len() * o.slot_width, carry_len, buf, 0);

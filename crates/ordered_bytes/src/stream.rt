@@ -4,13 +4,12 @@
 ghost use mathlib.Core.Path.{_≡_};
 ghost use mathlib.Core.Bool.{true, cond};
 ghost use Prim.Native.Nat.{_+_, _≤_, min};
-ghost use lib.ListN.{length, take, drop};
-ghost use lib.Seq.{paste};
+ghost use lib.ListN.{length};
 ghost use lib.Dec.{ltb, eqb};
 ghost use Rattle.refusal.specs.Said.{answers, refuses};
-ghost use Rattle.ordered_bytes.specs.Receiver.{walk, consumed};
-ghost use Rattle.ordered_bytes.specs.Buffer.{bufferOf, view, wellFormed};
+ghost use Rattle.ordered_bytes.specs.Buffer.{bufferOf, wellFormed};
 ghost use Rattle.ordered_bytes.specs.Calls.{consumedSays};
+ghost use Rattle.ordered_bytes.specs.Steps.{WalkCopied, ReadCopied};
 use crate::ConsumeAnswer;
 use crate::ConsumeResult;
 use crate::OrderedBytes;
@@ -51,11 +50,7 @@ fn walk_packets(
     store: &[u8],
 ) -> Walked
     requires { ⌜ (wellFormed (bufferOf o (now marks) (now lengths) (now store)) ≡ true) × (at + room ≤ length (now buf)) ⌝ }
-    ensures { λ r. ⌜ r .packets ≡ walk room (view (bufferOf o (now (marks .entry)) (now (lengths .entry)) (now (store .entry))) .held) .packets ⌝ }
-    ensures { λ r. ⌜ r .bytes ≡ length (walk room (view (bufferOf o (now (marks .entry)) (now (lengths .entry)) (now (store .entry))) .held) .bytes) ⌝ }
-    ensures { λ r. ⌜ now (buf .exit) ≡ paste (now (buf .entry)) at (walk room (view (bufferOf o (now (marks .entry)) (now (lengths .entry)) (now (store .entry))) .held) .bytes) (r .bytes) ⌝ }
-    ensures { λ r. ⌜ take (r .rest) (drop (r .«rest_at») (now (store .entry))) ≡ walk room (view (bufferOf o (now (marks .entry)) (now (lengths .entry)) (now (store .entry))) .held) .rest ⌝ }
-    ensures { λ r. ⌜ (r .«rest_at» + r .rest ≤ length (now (store .entry))) × (r .rest ≤ o .«slot_width») ⌝ }
+    ensures { λ r. ⌜ WalkCopied (bufferOf o (now (marks .entry)) (now (lengths .entry)) (now (store .entry))) room at (now (buf .entry)) (now (buf .exit)) r ⌝ }
 {
     let n = marks.len();
     let mut slot = o.front_slot;
@@ -92,12 +87,7 @@ pub fn read_bytes(
     store: &[u8],
 ) -> BytesRead
     requires { ⌜ (wellFormed (bufferOf o (now marks) (now lengths) (now store)) ≡ true) × (len ≤ length (now buf)) ⌝ }
-    ensures { λ r. ⌜ r .packets ≡ consumed (view (bufferOf o (now (marks .entry)) (now (lengths .entry)) (now (store .entry)))) len .packets ⌝ }
-    ensures { λ r. ⌜ r .base ≡ consumed (view (bufferOf o (now (marks .entry)) (now (lengths .entry)) (now (store .entry)))) len .base ⌝ }
-    ensures { λ r. ⌜ r .bytes ≡ length (consumed (view (bufferOf o (now (marks .entry)) (now (lengths .entry)) (now (store .entry)))) len .bytes) ⌝ }
-    ensures { λ r. ⌜ now (buf .exit) ≡ paste (now (buf .entry)) 0 (consumed (view (bufferOf o (now (marks .entry)) (now (lengths .entry)) (now (store .entry)))) len .bytes) (r .bytes) ⌝ }
-    ensures { λ r. ⌜ take (r .rest) (drop (r .«rest_at») (now (store .entry))) ≡ consumed (view (bufferOf o (now (marks .entry)) (now (lengths .entry)) (now (store .entry)))) len .carry ⌝ }
-    ensures { λ r. ⌜ (r .«rest_at» + r .rest ≤ length (now (store .entry))) × (r .rest ≤ o .«slot_width») ⌝ }
+    ensures { λ r. ⌜ ReadCopied (bufferOf o (now (marks .entry)) (now (lengths .entry)) (now (store .entry))) len (now (buf .entry)) (now (buf .exit)) r ⌝ }
 {
     let carry_len = o.carry_len;
     let carry_at = marks.len() * o.slot_width;

@@ -37,8 +37,8 @@ copy-pieces-requires c κs =
     let answered = told .before .before in
     let s = start (answered .before) in
     let e = answered .before .count-pieces .ensures in (
-      (s .pre, again-length (entry s) (s .args .limit) (e .0)),
-      pieces-room (entry s) (s .args .limit) (s .args .buf .now) (s .args .list .now) (s .pre) (e .0) (e .1 .0) (e .1 .1 .0) (e .1 .1 .1) (ap consumedBytesSays (told .enum-told2 .given .1)) (answered .consume-bytes-answer .ensures),
+      (s .pre, again-length (entry s) (s .args .limit) (e .packets)),
+      pieces-room (entry s) (s .args .limit) (s .args .buf .now) (s .args .list .now) (s .pre) e (ap consumedBytesSays (told .enum-told2 .given .1)) (answered .consume-bytes-answer .ensures),
     )
 
 take-packets-requires : tie.Need-take-packets-requires
@@ -47,7 +47,7 @@ take-packets-requires c κs =
     let counted = copied .before .before .before .before .before .before .before .before .before in
     let s = start counted in
     let k = counted .count-pieces .result .packets in
-    let were = again-length (entry s) (s .args .limit) (counted .count-pieces .ensures .0) in (
+    let were = again-length (entry s) (s .args .limit) (counted .count-pieces .ensures .packets) in (
       s .pre,
       (omega (arith, payloads-most k (view (entry s) .held) .1, length-held (entry s)), omega (arith, payloads-fit (good (s .pre)) k (omega (arith, s .good))), zero-le, zero-le),
     )
@@ -66,7 +66,7 @@ returns c =
     let answered = c .before .before in
     let s = start (answered .before) in
     let e = answered .before .count-pieces .ensures in
-    pieces-refused (entry s) (s .args .limit) (s .args .buf .now) (s .args .list .now) (s .pre) (e .0) (e .1 .0) (e .1 .1 .0) (e .1 .1 .1) (ap consumedBytesSays (c .enum-told .given .1)) (answered .consume-bytes-answer .ensures)
+    pieces-refused (entry s) (s .args .limit) (s .args .buf .now) (s .args .list .now) (s .pre) e (ap consumedBytesSays (c .enum-told .given .1)) (answered .consume-bytes-answer .ensures)
 
 same-length-4 : tie.Need-same-length-4
 same-length-4 c = search needs
@@ -91,8 +91,8 @@ returns-2 c =
     let answered = told .before .before in
     let s = start (answered .before) in
     let e = answered .before .count-pieces .ensures in
-    pieces-given (entry s) (s .args .limit) (s .args .buf .now) (s .args .list .now) (s .pre) (e .0) (e .1 .0) (e .1 .1 .0) (e .1 .1 .1) (ap consumedBytesSays (told .enum-told2 .given .1)) (answered .consume-bytes-answer .ensures)
-    (left .take-packets .ensures) (copied .copy-pieces .ensures .0) (copied .copy-pieces .ensures .1)
+    pieces-given (entry s) (s .args .limit) (s .args .buf .now) (s .args .list .now) (s .pre) e (ap consumedBytesSays (told .enum-told2 .given .1)) (answered .consume-bytes-answer .ensures)
+    (left .take-packets .ensures) (copied .copy-pieces .ensures)
 
 pub consume-bytes-unchecked-spec : {M : Type 1} → statement M
 consume-bytes-unchecked-spec =

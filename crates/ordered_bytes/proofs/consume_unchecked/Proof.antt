@@ -36,7 +36,7 @@ take-packets-requires c κs =
     let e = read .read-bytes .ensures in
     let fits = consume-fits (facts s) (s .args .len) .0 in
     let numbers = consumed-fits (facts s) (s .args .len) (omega (arith, s .good)) in
-    (s .pre, (omega (arith, e .0), omega (arith, e .0), e .1 .1 .1 .1 .1 .0, e .1 .1 .1 .1 .1 .1))
+    (s .pre, (omega (arith, e .packets), omega (arith, e .packets), e .carry .within, e .carry .small))
 
 consume-answer-requires : tie.Need-consume-answer-requires
 consume-answer-requires c κs = search needs
@@ -59,9 +59,8 @@ returns-2 c =
     let left = c .before .before .before .before .before .before .before in
     let read = left .before .before .before .before .before .before in
     let s = start (room read) in
-    let e = read .read-bytes .ensures in
     simp (s .pre, le-ltb _ _ (room read .if1 .left))
-    (read-given (facts s) (s .args .len) (s .args .buf .now) (e .0) (e .1 .1 .0) (e .1 .1 .1 .1 .0) (e .1 .0) (c .consume-answer .ensures) (e .1 .1 .1 .0) (left .take-packets .ensures))
+    (read-given (facts s) (s .args .len) (s .args .buf .now) (read .read-bytes .ensures) (c .consume-answer .ensures) (left .take-packets .ensures))
 
 pub consume-unchecked-spec : {M : Type 1} → statement M
 consume-unchecked-spec =

@@ -33,7 +33,7 @@ facts c = good (start c .pre .0 .0)
 in-ring : (c : Turn) → c .before .loop .slot < slots (entry c)
 in-ring c =
     let p = start c .pre in
-    copying-in (facts c) (p .0 .1) (p .1 .0) (p .1 .1) (c .before .loop .inv) (c .loop-test .taken)
+    copying-in (facts c) (p .0 .1) (p .1) (c .before .loop .inv) (c .loop-test .taken)
 
 in-store : (c : Turn) → let b = entry c in c .before .loop .slot * width b + width b ≤ length (b .store)
 in-store c = omega (arith, store-long (facts c), slot-ends (facts c) (in-ring c))
@@ -45,7 +45,7 @@ size-fits c = omega (arith, facts c .lengths-w (c .before .loop .slot), facts c 
 room : (c : Turn) → c .before .loop .given + getD (entry c .lengths) (c .before .loop .slot) 0 ≤ length (c .before .loop .buf)
 room c =
     let p = start c .pre in
-    copying-fits (facts c) (p .0 .1) (p .1 .0) (p .1 .1) (c .before .loop .inv) (c .loop-test .taken)
+    copying-fits (facts c) (p .0 .1) (p .1) (c .before .loop .inv) (c .loop-test .taken)
 
 loop-holds : tie.Need-loop-holds Inv-loop μ-loop
 loop-holds c =
@@ -73,17 +73,17 @@ copy-part-requires c κs =
 add-list : tie.Need-add-list Inv-loop μ-loop
 add-list c =
     let turn = c .before .before .before .before .before .before in
-    omega (arith, turn .loop-test .taken, start turn .pre .1 .1, start turn .good)
+    omega (arith, turn .loop-test .taken, start turn .pre .1 .cells, start turn .pre .0 .1, start turn .good)
 
 mul-list : tie.Need-mul-list Inv-loop μ-loop
 mul-list c =
     let turn = c .before .before .before .before .before .before in
-    omega (arith, turn .loop-test .taken, start turn .pre .1 .1, start turn .good)
+    omega (arith, turn .loop-test .taken, start turn .pre .1 .cells, start turn .pre .0 .1, start turn .good)
 
 slice-write-list : tie.Need-slice-write-list Inv-loop μ-loop
 slice-write-list c =
     let turn = c .before .before .before .before .before .before in
-    omega (arith, turn .loop-test .taken, start turn .pre .1 .1, turn .before .loop .inv .list-long)
+    omega (arith, turn .loop-test .taken, start turn .pre .1 .cells, start turn .pre .0 .1, turn .before .loop .inv .list-long)
 
 cast-given : tie.Need-cast-given Inv-loop μ-loop
 cast-given c = fits-le (size-fits (c .before .before .before .before .before .before)) (fits-lit tt)
@@ -96,7 +96,7 @@ add-given c =
 add-done : tie.Need-add-done Inv-loop μ-loop
 add-done c =
     let turn = c .before .before .before .before .before .before in
-    omega (arith, turn .loop-test .taken, start turn .pre .1 .1, start turn .good)
+    omega (arith, turn .loop-test .taken, start turn .pre .1 .cells, start turn .pre .0 .1, start turn .good)
 
 wrap-index-requires : tie.Need-wrap-index-requires Inv-loop μ-loop
 wrap-index-requires c κs =
@@ -112,7 +112,7 @@ loop-again c =
     let copied = c .before .before .before in
     let turn = copied .before .before .before .before in
     let p = start turn .pre in
-    copying-turn (facts turn) (p .0 .1) (p .1 .0) (p .1 .1) (turn .before .loop .inv) (turn .loop-test .taken) (copied .copy-part .ensures) (c .wrap-index .ensures)
+    copying-turn (facts turn) (p .0 .1) (p .1) (turn .before .loop .inv) (turn .loop-test .taken) (copied .copy-part .ensures) (c .wrap-index .ensures)
 
 same-length : tie.Need-same-length Inv-loop μ-loop
 same-length c = c .before .loop .inv .long

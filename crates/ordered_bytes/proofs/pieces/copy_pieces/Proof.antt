@@ -1,13 +1,16 @@
 -- `ordered_bytes::pieces::copy_pieces` meets its contract. Assumes nothing.
+use mathlib.Core.Bool.{cond}
 use mathlib.Core.List.{flatten}
 use native.Mathlib.Omega.{arith}
+use lib.Dec.{eqb}
 use borrow.Author.Needs.{needs}
-use Rattle.ordered_bytes.specs.Receiver.{payloads}
 use Rattle.ordered_bytes.specs.Buffer.{Buffer, bufferOf, view}
+use Rattle.ordered_bytes.specs.Steps.{heldPayloads, RoomFor}
 use Rattle.ordered_bytes.proofs.WellFormed.{Good, good}
 use Rattle.ordered_bytes.proofs.View.{length-carry}
 use Rattle.ordered_bytes.proofs.Given.{carry-in, carry-then}
-use Rattle.ordered_bytes.proofs.Gathered.{cells-written}
+use Rattle.ordered_bytes.proofs.Walk.{flatten-carry}
+use Rattle.ordered_bytes.proofs.Gathered.{cells-written, room-behind}
 use Rattle.ordered_bytes.proofs.pieces.copy_pieces.Statement.{statement}
 use Rattle.ordered_bytes.proofs.pieces.copy_pieces.Tie as tie
 
@@ -17,6 +20,10 @@ entry s = bufferOf (s .args .o) (s .args .marks .now) (s .args .lengths .now) (s
 facts : (s : tie.Start) → Good (entry s)
 facts s = good (s .pre .0 .0)
 
+-- the room that is left behind the carry-over
+behind : (s : tie.Start) → let k = s .args in RoomFor (heldPayloads (entry s) (k .packets)) (k .buf .now) (k .o .«carry_len») (k .list .now) (cond (eqb (k .o .«carry_len») 0) 0 1)
+behind s = room-behind (facts s) (s .args .packets) (s .args .buf .now) (s .args .list .now) (s .pre .1)
+
 mul-copy-part : tie.Need-mul-copy-part
 mul-copy-part c = let s = c .before .before .before .before .before .before in omega (arith, carry-in (facts s), s .good)
 
@@ -24,19 +31,19 @@ copy-part-requires : tie.Need-copy-part-requires
 copy-part-requires c κs =
     let s = c .before .before .before .before .before .before .before in
     let g = facts s in
-    (omega (arith, g .carry-w, g .shape .small-width), omega (arith, carry-in g), omega (arith, s .pre .1 .0))
+    (omega (arith, g .carry-w, g .shape .small-width), omega (arith, carry-in g), omega (arith, behind s .bytes))
 
 put-carry-length-requires : tie.Need-put-carry-length-requires
 put-carry-length-requires c κs =
     let s = c .before .before .before .before .before .before .before .before .before .before .before in
     let g = facts s in
-    (omega (arith, g .carry-w, g .shape .small-width), omega (arith, s .pre .1 .1))
+    (omega (arith, g .carry-w, g .shape .small-width), omega (arith, behind s .cells))
 
 copy-payloads-requires : tie.Need-copy-payloads-requires
 copy-payloads-requires c κs =
     let put = c .before .before .before .before in
     let s = put .before .before .before .before .before .before .before .before .before .before .before .before in
-    (s .pre .0, (omega (arith, s .pre .1 .0), omega (arith, put .put-carry-length .ensures .0, s .pre .1 .1)))
+    (s .pre .0, record { bytes = omega (arith, behind s .bytes); cells = omega (arith, put .put-carry-length .ensures .0, behind s .cells) })
 
 same-length : tie.Need-same-length
 same-length c = search needs
@@ -51,11 +58,14 @@ returns c =
     let copied = put .before .before .before .before in
     let s = copied .before .before .before .before .before .before .before .before in
     let g = facts s in
-    let ps = payloads (s .args .packets) (view (entry s) .held) in (
-      carry-then g (flatten ps) (s .args .buf .now) (omega (arith, s .pre .1 .0)) (copied .copy-part .ensures) (last .copy-payloads .ensures .0),
-      cells-written (view (entry s) .carry) (s .args .list .now) ps (length-carry g) (put .put-carry-length .ensures .0) (s .pre .0 .1)
-          (omega (arith, put .put-carry-length .ensures .0, s .pre .1 .1)) (put .put-carry-length .ensures .1) (last .copy-payloads .ensures .1),
-    )
+    let b = entry s in
+    let ps = heldPayloads b (s .args .packets) in
+    let put = put .put-carry-length .ensures in
+    let copies = last .copy-payloads .ensures in
+    record {
+      bytes = rw (flatten-carry (view b .carry) ps) (carry-then g (flatten ps) (s .args .buf .now) (omega (arith, behind s .bytes)) (copied .copy-part .ensures) (copies .bytes));
+      cells = cells-written (view b .carry) (s .args .list .now) ps (length-carry g) (put .0) (omega (arith, put .0, behind s .cells)) (put .1) (copies .cells);
+    }
 
 pub copy-pieces-spec : {M : Type 1} → statement M
 copy-pieces-spec =

@@ -10,7 +10,7 @@ use borrow.Author.Tests.{ltb-true, ltb-false}
 use Rattle.ordered_bytes.specs.declared.OrderedBytes.{OrderedBytes}
 use Rattle.ordered_bytes.specs.Buffer.{Buffer, bufferOf, wellFormed, slots}
 use Rattle.ordered_bytes.proofs.WellFormed.{Good, good}
-use Rattle.ordered_bytes.proofs.Payloads.{CountState, counting-starts, counting-in, counting-turn, counting-ends, counting-done}
+use Rattle.ordered_bytes.proofs.Payloads.{CountState, counting-starts, counting-in, counting-turn, counting-done}
 use Rattle.ordered_bytes.proofs.pieces.count_payloads.Statement.{statement}
 use Rattle.ordered_bytes.proofs.pieces.count_payloads.Tie as tie
 
@@ -90,18 +90,13 @@ loop-again c =
 returns : tie.Need-returns Inv-loop μ-loop
 returns c =
     let test = c .before .before .before in
-    let at = test .before in
-    counting-done (facts at) (state at) (counting-ends (facts at) (state at) (inr (inr (test .loop-test .taken, c .if2 .left))))
+    counting-done (facts (test .before)) (state (test .before)) (inr (inr (test .loop-test .taken, c .if2 .left)))
 
 returns-2 : tie.Need-returns-2 Inv-loop μ-loop
-returns-2 c =
-    let at = c .before .before in
-    counting-done (facts at) (state at) (counting-ends (facts at) (state at) (inr (inl (ltb-false _ _ (c .if1 .left)))))
+returns-2 c = counting-done (facts (c .before .before)) (state (c .before .before)) (inr (inl (ltb-false _ _ (c .if1 .left))))
 
 returns-3 : tie.Need-returns-3 Inv-loop μ-loop
-returns-3 c =
-    let at = c .before in
-    counting-done (facts at) (state at) (counting-ends (facts at) (state at) (inl (c .loop-test .left)))
+returns-3 c = counting-done (facts (c .before)) (state (c .before)) (inl (c .loop-test .left))
 
 pub count-payloads-spec : {M : Type 1} → statement M
 count-payloads-spec =

@@ -33,13 +33,13 @@ add-t8 c =
     let less = counted .before in
     let s = less .before .before .before .before .before in
     let few = payloads-most (less .saturating-sub .result) (view (entry s) .held) .1 in
-    omega (arith, less .before .carry-pieces .ensures, at-most-one (eqb (s .args .o .«carry_len») 0), counted .count-payloads .ensures .0, length-held (entry s), facts s .shape .few-slots)
+    omega (arith, less .before .carry-pieces .ensures, at-most-one (eqb (s .args .o .«carry_len») 0), counted .count-payloads .ensures .packets, length-held (entry s), facts s .shape .few-slots)
 
 add-t9 : tie.Need-add-t9
 add-t9 c =
     let counted = c .before .before .before in
     let s = counted .before .before .before .before .before .before in
-    omega (arith, facts s .carry-w, facts s .shape .small-width, counted .count-payloads .ensures .1 .1)
+    omega (arith, facts s .carry-w, facts s .shape .small-width, counted .count-payloads .ensures .few)
 
 base-packet-number-requires : tie.Need-base-packet-number-requires
 base-packet-number-requires c κs = facts (c .before .before .before .before .before .before .before .before .before) .front-n
@@ -50,8 +50,8 @@ returns c =
     let less = counted .before in
     let first = less .before in
     let s = first .before .before .before .before in
-    let p = pieces-counted (facts s) (s .args .limit) (first .carry-pieces .ensures) (less .saturating-sub .ensures) (counted .count-payloads .ensures .0) (counted .count-payloads .ensures .1 .0) in
-    (p .0, (p .1 .0, (p .1 .1, c .base-packet-number .ensures ∙ sym (base-by-marks (facts s)))))
+    pieces-counted (facts s) (s .args .limit) (first .carry-pieces .ensures) (less .saturating-sub .ensures) (counted .count-payloads .ensures)
+    (c .base-packet-number .ensures ∙ sym (base-by-marks (facts s)))
 
 pub count-pieces-spec : {M : Type 1} → statement M
 count-pieces-spec =

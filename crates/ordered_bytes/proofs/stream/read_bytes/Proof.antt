@@ -59,7 +59,7 @@ add-t10 c =
     let gave = c .before .before .before .before in
     let s = start (gave .before .before .before .before .before) in
     let few = walked (s .args .len - s .args .o .«carry_len») (view (entry s) .held) .gave in
-    omega (arith, gave .walk-packets .ensures .1 .0, gave .before .before .if1 .left, s .pre .1, s .good)
+    omega (arith, gave .walk-packets .ensures .bytes, gave .before .before .if1 .left, s .pre .1, s .good)
 
 same-length-2 : tie.Need-same-length-2
 same-length-2 c = search needs
@@ -70,7 +70,7 @@ returns-2 c =
     let whole = gave .before .before in
     let copied = whole .before .before .before in
     let s = start copied in
-    whole-read (facts s) (s .args .len) (s .args .buf .now) (gave .walk-packets .result .«rest_at») (gave .walk-packets .result .rest) (whole .if1 .left) (s .pre .1) (copied .before .before .smaller .ensures) (copied .copy-part .ensures) (gave .walk-packets .ensures)
+    whole-read (facts s) (s .args .len) (s .args .buf .now) (whole .if1 .left) (s .pre .1) (copied .before .before .smaller .ensures) (copied .copy-part .ensures) (gave .walk-packets .ensures)
     (c .before .base-packet-number .ensures ∙ sym (base-by-marks (facts s)))
 
 pub read-bytes-spec : {M : Type 1} → statement M

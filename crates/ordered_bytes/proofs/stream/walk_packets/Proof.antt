@@ -10,7 +10,7 @@ use borrow.Author.Tests.{ltb-true, ltb-false}
 use Rattle.ordered_bytes.specs.Buffer.{Buffer, bufferOf, slots, width}
 use Rattle.ordered_bytes.proofs.WellFormed.{Good, good}
 use Rattle.ordered_bytes.proofs.View.{slot-ends, store-long}
-use Rattle.ordered_bytes.proofs.Loops.{WalkState, walking-starts, walking-in, walking-turn, walking-ends, walking-done}
+use Rattle.ordered_bytes.proofs.Loops.{WalkState, walking-starts, walking-in, walking-turn, walking-done}
 use Rattle.ordered_bytes.proofs.stream.walk_packets.Statement.{statement}
 use Rattle.ordered_bytes.proofs.stream.walk_packets.Tie as tie
 
@@ -136,27 +136,19 @@ same-length c = c .before .before .before .before .loop .inv .long
 returns : tie.Need-returns Inv-loop μ-loop
 returns c =
     let test = c .before .before .before in
-    let at = test .before in
-    let s = at .loop .inv in
-    walking-done (facts at) s (walking-ends (facts at) s (inr (inr (test .loop-test .taken, c .if2 .left))))
+    walking-done (facts (test .before)) (test .before .loop .inv) (inr (inr (test .loop-test .taken, c .if2 .left)))
 
 same-length-2 : tie.Need-same-length-2 Inv-loop μ-loop
 same-length-2 c = c .before .before .loop .inv .long
 
 returns-2 : tie.Need-returns-2 Inv-loop μ-loop
-returns-2 c =
-    let at = c .before .before in
-    let s = at .loop .inv in
-    walking-done (facts at) s (walking-ends (facts at) s (inr (inl (ltb-false _ _ (c .if1 .left)))))
+returns-2 c = walking-done (facts (c .before .before)) (c .before .before .loop .inv) (inr (inl (ltb-false _ _ (c .if1 .left))))
 
 same-length-3 : tie.Need-same-length-3 Inv-loop μ-loop
 same-length-3 c = c .before .loop .inv .long
 
 returns-3 : tie.Need-returns-3 Inv-loop μ-loop
-returns-3 c =
-    let at = c .before in
-    let s = at .loop .inv in
-    walking-done (facts at) s (walking-ends (facts at) s (inl (c .loop-test .left)))
+returns-3 c = walking-done (facts (c .before)) (c .before .loop .inv) (inl (c .loop-test .left))
 
 pub walk-packets-spec : {M : Type 1} → statement M
 walk-packets-spec =
