@@ -10,6 +10,7 @@ ghost use Rattle.lists.specs.Numbers.{largest};
 ghost use Rattle.ordered_bytes.specs.Receiver.{base};
 ghost use Rattle.ordered_bytes.specs.Buffer.{bufferOf, view, wellFormed, taken};
 use crate::OrderedBytes;
+use crate::SlotLength;
 
 // "Base is the front packet's number before the walk, or 0 if none is held."
 pub fn base_packet_number(o: OrderedBytes, marks: &[bool]) -> u64
@@ -27,7 +28,7 @@ pub fn take_packets(
     rest_at: usize,
     rest: usize,
     marks: &mut [bool],
-    lengths: &mut [u32],
+    lengths: &mut [SlotLength],
     store: &mut [u8],
 ) -> OrderedBytes
     requires { ⌜ wellFormed (bufferOf o (now marks) (now lengths) (now store)) ≡ true ⌝ }

@@ -7,6 +7,7 @@ ghost use Rattle.ordered_bytes.specs.Buffer.{bufferOf, wellFormed};
 ghost use Rattle.ordered_bytes.specs.Calls.{creationOf, creating, startedSays, starting, acceptanceOf, accepting, peekedSays, peeking};
 ghost use Rattle.ordered_bytes.specs.Calls.{consumptionOf, consuming, pieceConsumptionOf, consumingBytes};
 use refusal::Refusal;
+pub use slots::SlotLength;
 
 mod front;
 mod pieces;
@@ -71,7 +72,7 @@ pub struct ConsumedBytes {
 }
 
 // Refusal 12's test.
-pub fn well_formed(o: OrderedBytes, marks: &[bool], lengths: &[u32], store: &[u8]) -> bool
+pub fn well_formed(o: OrderedBytes, marks: &[bool], lengths: &[SlotLength], store: &[u8]) -> bool
     ensures { λ r. ⌜ r ≡ wellFormed (bufferOf o (now (marks .entry)) (now (lengths .entry)) (now (store .entry))) ⌝ }
 {
     let slot_width = o.slot_width;
@@ -84,7 +85,7 @@ pub fn well_formed(o: OrderedBytes, marks: &[bool], lengths: &[u32], store: &[u8
     if slot_width < o.carry_len {
         return false;
     }
-    if !slots::lengths_within(slot_width as u32, lengths) {
+    if !slots::lengths_within(slot_width as SlotLength, lengths) {
         return false;
     }
     state::held_numbers_fit(o, marks)
@@ -95,7 +96,7 @@ pub fn new(
     slot_width: usize,
     start_packet_number: u64,
     marks: &mut [bool],
-    lengths: &mut [u32],
+    lengths: &mut [SlotLength],
     store: &[u8],
 ) -> Created
     ensures { λ r. ⌜ creationOf r (now (marks .exit)) (now (lengths .exit)) ≡ creating «slot_width» «start_packet_number» (now (marks .entry)) (now (lengths .entry)) (now (store .entry)) ⌝ }
@@ -117,7 +118,7 @@ pub fn set_start_packet_number(
     o: OrderedBytes,
     start_packet_number: u64,
     marks: &[bool],
-    lengths: &[u32],
+    lengths: &[SlotLength],
     store: &[u8],
 ) -> Started
     ensures { λ r. ⌜ startedSays r ≡ starting (bufferOf o (now (marks .entry)) (now (lengths .entry)) (now (store .entry))) «start_packet_number» ⌝ }
@@ -142,7 +143,7 @@ pub fn buffer_in_packet(
     n: u64,
     payload: &[u8],
     marks: &mut [bool],
-    lengths: &mut [u32],
+    lengths: &mut [SlotLength],
     store: &mut [u8],
 ) -> Accepted
     ensures { λ r. ⌜ acceptanceOf r o (now (marks .exit)) (now (lengths .exit)) (now (store .exit))
@@ -160,7 +161,7 @@ pub fn buffer_in_packet_unchecked(
     n: u64,
     payload: &[u8],
     marks: &mut [bool],
-    lengths: &mut [u32],
+    lengths: &mut [SlotLength],
     store: &mut [u8],
 ) -> Accepted
     requires { ⌜ wellFormed (bufferOf o (now marks) (now lengths) (now store)) ≡ true ⌝ }
@@ -190,7 +191,7 @@ pub fn buffer_in_packet_unchecked(
 }
 
 // net/ordered_bytes.rs, OrderedBytes::peek.
-pub fn peek(o: OrderedBytes, marks: &[bool], lengths: &[u32], store: &[u8]) -> Peeked
+pub fn peek(o: OrderedBytes, marks: &[bool], lengths: &[SlotLength], store: &[u8]) -> Peeked
     ensures { λ r. ⌜ peekedSays r ≡ peeking (bufferOf o (now (marks .entry)) (now (lengths .entry)) (now (store .entry))) ⌝ }
 {
     if !well_formed(o, marks, lengths, store) {
@@ -200,7 +201,12 @@ pub fn peek(o: OrderedBytes, marks: &[bool], lengths: &[u32], store: &[u8]) -> P
 }
 
 // The same without refusal 12's test.
-pub fn peek_unchecked(o: OrderedBytes, marks: &[bool], lengths: &[u32], store: &[u8]) -> Peeked
+pub fn peek_unchecked(
+    o: OrderedBytes,
+    marks: &[bool],
+    lengths: &[SlotLength],
+    store: &[u8],
+) -> Peeked
     requires { ⌜ wellFormed (bufferOf o (now marks) (now lengths) (now store)) ≡ true ⌝ }
     ensures { λ r. ⌜ peekedSays r ≡ peeking (bufferOf o (now (marks .entry)) (now (lengths .entry)) (now (store .entry))) ⌝ }
 {
@@ -220,7 +226,7 @@ pub fn consume(
     len: usize,
     buf: &mut [u8],
     marks: &mut [bool],
-    lengths: &mut [u32],
+    lengths: &mut [SlotLength],
     store: &mut [u8],
 ) -> Consumed
     ensures { λ r. ⌜ consumptionOf r (now (marks .exit)) (now (lengths .exit)) (now (store .exit)) (now (buf .exit))
@@ -241,7 +247,7 @@ pub fn consume_unchecked(
     len: usize,
     buf: &mut [u8],
     marks: &mut [bool],
-    lengths: &mut [u32],
+    lengths: &mut [SlotLength],
     store: &mut [u8],
 ) -> Consumed
     requires { ⌜ wellFormed (bufferOf o (now marks) (now lengths) (now store)) ≡ true ⌝ }
@@ -268,7 +274,7 @@ pub fn consume_bytes(
     buf: &mut [u8],
     list: &mut [u32],
     marks: &mut [bool],
-    lengths: &mut [u32],
+    lengths: &mut [SlotLength],
     store: &mut [u8],
 ) -> ConsumedBytes
     ensures { λ r. ⌜ pieceConsumptionOf r (now (marks .exit)) (now (lengths .exit)) (now (store .exit)) (now (buf .exit)) (now (list .exit))
@@ -290,7 +296,7 @@ pub fn consume_bytes_unchecked(
     buf: &mut [u8],
     list: &mut [u32],
     marks: &mut [bool],
-    lengths: &mut [u32],
+    lengths: &mut [SlotLength],
     store: &mut [u8],
 ) -> ConsumedBytes
     requires { ⌜ wellFormed (bufferOf o (now marks) (now lengths) (now store)) ≡ true ⌝ }

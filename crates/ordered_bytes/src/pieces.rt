@@ -13,6 +13,7 @@ ghost use Rattle.ordered_bytes.specs.Steps.{heldPayloads, piecesOf, piec
 use crate::ConsumeBytesAnswer;
 use crate::ConsumeResult;
 use crate::OrderedBytes;
+use crate::SlotLength;
 use crate::front;
 use refusal::Refusal;
 
@@ -47,7 +48,7 @@ fn count_payloads(
     o: OrderedBytes,
     most: usize,
     marks: &[bool],
-    lengths: &[u32],
+    lengths: &[SlotLength],
     store: &[u8],
 ) -> Payloads
     requires { ⌜ wellFormed (bufferOf o (now marks) (now lengths) (now store)) ≡ true ⌝ }
@@ -73,7 +74,7 @@ pub fn count_pieces(
     o: OrderedBytes,
     limit: usize,
     marks: &[bool],
-    lengths: &[u32],
+    lengths: &[SlotLength],
     store: &[u8],
 ) -> Pieces
     requires { ⌜ wellFormed (bufferOf o (now marks) (now lengths) (now store)) ≡ true ⌝ }
@@ -121,7 +122,7 @@ fn copy_payloads(
     list: &mut [u32],
     first: usize,
     marks: &[bool],
-    lengths: &[u32],
+    lengths: &[SlotLength],
     store: &[u8],
 )
     requires { ⌜ (wellFormed (bufferOf o (now marks) (now lengths) (now store)) ≡ true) × (length (heldPayloads (bufferOf o (now marks) (now lengths) (now store)) packets) ≡ packets) ⌝ }
@@ -136,7 +137,7 @@ fn copy_payloads(
     while done < packets {
         let size = lengths[slot];
         parts::copy_part(store, slot * o.slot_width, size as usize, buf, given);
-        list[first + done] = size;
+        list[first + done] = size as u32;
         given += size as usize;
         done += 1;
         slot = slots::wrap_index(n, slot, 1);
@@ -163,7 +164,7 @@ pub fn copy_pieces(
     buf: &mut [u8],
     list: &mut [u32],
     marks: &[bool],
-    lengths: &[u32],
+    lengths: &[SlotLength],
     store: &[u8],
 )
     requires { ⌜ (wellFormed (bufferOf o (now marks) (now lengths) (now store)) ≡ true) × (length (heldPayloads (bufferOf o (now marks) (now lengths) (now store)) packets) ≡ packets) ⌝ }

@@ -13,6 +13,7 @@ ghost use Rattle.ordered_bytes.specs.Steps.{WalkCopied, ReadCopied};
 use crate::ConsumeAnswer;
 use crate::ConsumeResult;
 use crate::OrderedBytes;
+use crate::SlotLength;
 use crate::front;
 use refusal::Refusal;
 
@@ -46,7 +47,7 @@ fn walk_packets(
     buf: &mut [u8],
     at: usize,
     marks: &[bool],
-    lengths: &[u32],
+    lengths: &[SlotLength],
     store: &[u8],
 ) -> Walked
     requires { ⌜ (wellFormed (bufferOf o (now marks) (now lengths) (now store)) ≡ true) × (at + room ≤ length (now buf)) ⌝ }
@@ -83,7 +84,7 @@ pub fn read_bytes(
     len: usize,
     buf: &mut [u8],
     marks: &[bool],
-    lengths: &[u32],
+    lengths: &[SlotLength],
     store: &[u8],
 ) -> BytesRead
     requires { ⌜ (wellFormed (bufferOf o (now marks) (now lengths) (now store)) ≡ true) × (len ≤ length (now buf)) ⌝ }

@@ -10,6 +10,7 @@ use ordered_bytes::ConsumeResult;
 use ordered_bytes::Created;
 use ordered_bytes::OrderedBytes;
 use ordered_bytes::Peeked;
+use ordered_bytes::SlotLength;
 use ordered_bytes::Started;
 use refusal::Refusal;
 
@@ -26,7 +27,12 @@ fn class(r: Refusal) -> u64 {
     refusal::number(r) as u64
 }
 
-fn start(o: OrderedBytes, marks: &mut [bool], lengths: &mut [u32], store: &[u8]) -> OrderedBytes {
+fn start(
+    o: OrderedBytes,
+    marks: &mut [bool],
+    lengths: &mut [SlotLength],
+    store: &[u8],
+) -> OrderedBytes {
     let number = recorded::read_word();
     match ordered_bytes::new(WIDTH, number, marks, lengths, store) {
         Created::Buffer(after) => {
@@ -40,7 +46,12 @@ fn start(o: OrderedBytes, marks: &mut [bool], lengths: &mut [u32], store: &[u8])
     }
 }
 
-fn set_start(o: OrderedBytes, marks: &[bool], lengths: &[u32], store: &[u8]) -> OrderedBytes {
+fn set_start(
+    o: OrderedBytes,
+    marks: &[bool],
+    lengths: &[SlotLength],
+    store: &[u8],
+) -> OrderedBytes {
     let number = recorded::read_word();
     match ordered_bytes::set_start_packet_number(o, number, marks, lengths, store) {
         Started::Buffer(after) => {
@@ -71,7 +82,7 @@ fn accept_one(
     n: u64,
     payload: &mut [u8],
     marks: &mut [bool],
-    lengths: &mut [u32],
+    lengths: &mut [SlotLength],
     store: &mut [u8],
 ) -> u64 {
     fill_payload(n, payload);
@@ -81,7 +92,7 @@ fn accept_one(
     }
 }
 
-fn accept(o: OrderedBytes, marks: &mut [bool], lengths: &mut [u32], store: &mut [u8]) {
+fn accept(o: OrderedBytes, marks: &mut [bool], lengths: &mut [SlotLength], store: &mut [u8]) {
     let n = recorded::read_word();
     let mut payload = [0u8; WIDTH];
     let length = recorded::read_length(&payload);
@@ -95,7 +106,7 @@ fn accept_each(
     count: u64,
     payload: &mut [u8],
     marks: &mut [bool],
-    lengths: &mut [u32],
+    lengths: &mut [SlotLength],
     store: &mut [u8],
 ) {
     let mut i = 0;
@@ -113,7 +124,7 @@ fn accept_each(
     recorded::print_number(count);
 }
 
-fn accept_run(o: OrderedBytes, marks: &mut [bool], lengths: &mut [u32], store: &mut [u8]) {
+fn accept_run(o: OrderedBytes, marks: &mut [bool], lengths: &mut [SlotLength], store: &mut [u8]) {
     let first = recorded::read_word();
     let count = recorded::read_word();
     let mut payload = [0u8; WIDTH];
@@ -129,7 +140,7 @@ fn accept_run(o: OrderedBytes, marks: &mut [bool], lengths: &mut [u32], store: &
     );
 }
 
-fn peek(o: OrderedBytes, marks: &[bool], lengths: &[u32], store: &[u8]) {
+fn peek(o: OrderedBytes, marks: &[bool], lengths: &[SlotLength], store: &[u8]) {
     match ordered_bytes::peek(o, marks, lengths, store) {
         Peeked::Available => recorded::begin_line(0),
         Peeked::Refused(r) => recorded::begin_line(class(r)),
@@ -168,7 +179,7 @@ fn consume_into(
     o: OrderedBytes,
     buf: &mut [u8],
     marks: &mut [bool],
-    lengths: &mut [u32],
+    lengths: &mut [SlotLength],
     store: &mut [u8],
 ) -> OrderedBytes {
     let len = buf.len();
@@ -185,7 +196,7 @@ fn consume_into(
 fn consume(
     o: OrderedBytes,
     marks: &mut [bool],
-    lengths: &mut [u32],
+    lengths: &mut [SlotLength],
     store: &mut [u8],
 ) -> OrderedBytes {
     let mut buf = [BEFORE; STORE_LEN];
@@ -213,7 +224,7 @@ fn consume_bytes_into(
     buf: &mut [u8],
     list: &mut [u32],
     marks: &mut [bool],
-    lengths: &mut [u32],
+    lengths: &mut [SlotLength],
     store: &mut [u8],
 ) -> OrderedBytes {
     let consumed = ordered_bytes::consume_bytes(o, limit, buf, list, marks, lengths, store);
@@ -236,7 +247,7 @@ fn consume_bytes_into(
 fn consume_bytes(
     o: OrderedBytes,
     marks: &mut [bool],
-    lengths: &mut [u32],
+    lengths: &mut [SlotLength],
     store: &mut [u8],
 ) -> OrderedBytes {
     let limit = recorded::read_word() as usize;
@@ -246,7 +257,14 @@ fn consume_bytes(
 }
 
 // A held packet counts with its distance from the front, its length and its bytes.
-fn add_slot(sum: u64, mark: bool, distance: u64, length: u32, store: &[u8], start: usize) -> u64 {
+fn add_slot(
+    sum: u64,
+    mark: bool,
+    distance: u64,
+    length: SlotLength,
+    store: &[u8],
+    start: usize,
+) -> u64 {
     if !mark {
         return sum;
     }
@@ -256,7 +274,7 @@ fn add_slot(sum: u64, mark: bool, distance: u64, length: u32, store: &[u8], star
 }
 
 // The sum of all held packets, and the sum of the carry-over.
-fn print_held(o: OrderedBytes, marks: &[bool; SLOTS], lengths: &[u32; SLOTS], store: &[u8]) {
+fn print_held(o: OrderedBytes, marks: &[bool; SLOTS], lengths: &[SlotLength; SLOTS], store: &[u8]) {
     let mut sum = 0;
     let mut distance = 0;
     let mut slot = o.front_slot % SLOTS;
@@ -289,7 +307,7 @@ fn answer_in_place(
     o: OrderedBytes,
     command: u64,
     marks: &mut [bool; SLOTS],
-    lengths: &mut [u32; SLOTS],
+    lengths: &mut [SlotLength; SLOTS],
     store: &mut [u8; STORE_LEN],
 ) -> OrderedBytes {
     match command {
@@ -304,7 +322,7 @@ fn answer_in_place(
 fn answer(
     o: OrderedBytes,
     marks: &mut [bool; SLOTS],
-    lengths: &mut [u32; SLOTS],
+    lengths: &mut [SlotLength; SLOTS],
     store: &mut [u8; STORE_LEN],
 ) -> OrderedBytes {
     let command = recorded::read_word();
@@ -322,7 +340,7 @@ fn answer(
 fn main() {
     let commands = recorded::read_word();
     let mut marks = [false; SLOTS];
-    let mut lengths = [0u32; SLOTS];
+    let mut lengths: [SlotLength; SLOTS] = [0; SLOTS];
     let mut store = [0u8; STORE_LEN];
     let mut o = OrderedBytes {
         slot_width: WIDTH,

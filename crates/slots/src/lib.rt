@@ -10,6 +10,9 @@ ghost use lib.Seq.{paste};
 ghost use Rattle.lists.specs.Within.{allWithin};
 ghost use Rattle.slots.specs.Slots.{wrap, cleared, shapeFits};
 
+// What the length of a slot is stored in. A width is at most 65,535, so a narrower type would hold it as well.
+pub type SlotLength = u32;
+
 // net/ordered_bytes.rs, MAX_BUFFER_SIZE: the most slots.
 const MAX_BUFFER_SIZE: usize = 2000;
 
@@ -19,7 +22,7 @@ const MAX_SLOT_WIDTH: usize = 65535;
 const BLOCK: usize = 64;
 
 // Of refusal 12's test: N, W and the lent lists' lengths.
-pub fn shape_fits(slot_width: usize, marks: &[bool], lengths: &[u32], store: &[u8]) -> bool
+pub fn shape_fits(slot_width: usize, marks: &[bool], lengths: &[SlotLength], store: &[u8]) -> bool
     ensures { λ r. ⌜ r ≡ shapeFits «slot_width» (now (marks .entry)) (now (lengths .entry)) (now (store .entry)) ⌝ }
 {
     let n = marks.len();
@@ -40,7 +43,7 @@ pub fn shape_fits(slot_width: usize, marks: &[bool], lengths: &[u32], store: &[u
 
 // Of refusal 12's test: no slot's length out of range. This test is most of what an accept costs.
 // Equal lengths, as most are, pass by their bits alone, a block at a time; from the first block that does not, each length is compared.
-pub fn lengths_within(slot_width: u32, lengths: &[u32]) -> bool
+pub fn lengths_within(slot_width: SlotLength, lengths: &[SlotLength]) -> bool
     ensures { λ r. ⌜ r ≡ allWithin «slot_width» (now (lengths .entry)) ⌝ }
 {
     let mut i = 0;
@@ -54,7 +57,7 @@ pub fn lengths_within(slot_width: u32, lengths: &[u32]) -> bool
 }
 
 // Whether the bits of a block's lengths, taken together, are a number within the width: then each length is. False says nothing.
-fn bits_within(slot_width: u32, lengths: &[u32], from: usize) -> bool
+fn bits_within(slot_width: SlotLength, lengths: &[SlotLength], from: usize) -> bool
     requires { ⌜ from + 64 ≤ length (now lengths) ⌝ }
     ensures { λ r. ⌜ (r ≡ true → allWithin «slot_width» (drop (from + 64) (now (lengths .entry))) ≡ allWithin «slot_width» (drop from (now (lengths .entry)))) ⌝ }
 {
@@ -67,7 +70,7 @@ fn bits_within(slot_width: u32, lengths: &[u32], from: usize) -> bool
     bits <= slot_width
 }
 
-fn blocks_within(slot_width: u32, lengths: &[u32], from: usize) -> bool
+fn blocks_within(slot_width: SlotLength, lengths: &[SlotLength], from: usize) -> bool
     requires { ⌜ from ≤ length (now lengths) ⌝ }
     ensures { λ r. ⌜ r ≡ allWithin «slot_width» (drop from (now (lengths .entry))) ⌝ }
 {
@@ -82,7 +85,7 @@ fn blocks_within(slot_width: u32, lengths: &[u32], from: usize) -> bool
 }
 
 // One flag and no early exit: the compiler tests many lengths at once, and lays a block out with no loop.
-fn block_within(slot_width: u32, lengths: &[u32], from: usize) -> bool
+fn block_within(slot_width: SlotLength, lengths: &[SlotLength], from: usize) -> bool
     requires { ⌜ from + 64 ≤ length (now lengths) ⌝ }
     ensures { λ r. ⌜ (r && allWithin «slot_width» (drop (from + 64) (now (lengths .entry)))) ≡ allWithin «slot_width» (drop from (now (lengths .entry))) ⌝ }
 {
@@ -97,7 +100,7 @@ fn block_within(slot_width: u32, lengths: &[u32], from: usize) -> bool
     within
 }
 
-fn rest_within(slot_width: u32, lengths: &[u32], from: usize) -> bool
+fn rest_within(slot_width: SlotLength, lengths: &[SlotLength], from: usize) -> bool
     requires { ⌜ from ≤ length (now lengths) ⌝ }
     ensures { λ r. ⌜ r ≡ allWithin «slot_width» (drop from (now (lengths .entry))) ⌝ }
 {
@@ -131,7 +134,7 @@ fn clear_marks(marks: &mut [bool])
     }
 }
 
-fn clear_lengths(lengths: &mut [u32])
+fn clear_lengths(lengths: &mut [SlotLength])
     ensures { λ _. ⌜ now (lengths .exit) ≡ replicate (length (now (lengths .entry))) 0 ⌝ }
 {
     let mut i = 0;
@@ -142,7 +145,7 @@ fn clear_lengths(lengths: &mut [u32])
 }
 
 // Empties all slots.
-pub fn clear_slots(marks: &mut [bool], lengths: &mut [u32])
+pub fn clear_slots(marks: &mut [bool], lengths: &mut [SlotLength])
     ensures { λ _. ⌜ now (marks .exit) ≡ replicate (length (now (marks .entry))) false ⌝ }
     ensures { λ _. ⌜ now (lengths .exit) ≡ replicate (length (now (lengths .entry))) 0 ⌝ }
 {
@@ -151,7 +154,7 @@ pub fn clear_slots(marks: &mut [bool], lengths: &mut [u32])
 }
 
 // "A taken slot loses its mark, its length becomes 0." Empties the `count` slots from `first` on, round the ring.
-pub fn take_slots(first: usize, count: usize, marks: &mut [bool], lengths: &mut [u32])
+pub fn take_slots(first: usize, count: usize, marks: &mut [bool], lengths: &mut [SlotLength])
     requires { ⌜ (length (now marks) ≤ 2000) × (first < length (now marks)) × (length (now lengths) ≡ length (now marks)) ⌝ }
     ensures { λ _. ⌜ now (marks .exit) ≡ cleared (length (now (marks .entry))) first count false (now (marks .entry)) ⌝ }
     ensures { λ _. ⌜ now (lengths .exit) ≡ cleared (length (now (marks .entry))) first count 0 (now (lengths .entry)) ⌝ }
@@ -173,7 +176,7 @@ pub fn store_in(
     slot_width: usize,
     payload: &[u8],
     marks: &mut [bool],
-    lengths: &mut [u32],
+    lengths: &mut [SlotLength],
     store: &mut [u8],
 )
     requires { ⌜ (length (now payload) ≤ 65535) × (slot < length (now marks)) × (slot < length (now lengths)) × (slot * «slot_width» + length (now payload) ≤ length (now store)) ⌝ }
@@ -182,6 +185,6 @@ pub fn store_in(
     ensures { λ _. ⌜ now (store .exit) ≡ paste (now (store .entry)) (slot * «slot_width») (now (payload .entry)) (length (now (payload .entry))) ⌝ }
 {
     marks[slot] = true;
-    lengths[slot] = payload.len() as u32;
+    lengths[slot] = payload.len() as SlotLength;
     parts::copy_part(payload, 0, payload.len(), store, slot * slot_width);
 }
