@@ -1,28 +1,28 @@
 -- Every call leaves a well-formed buffer well formed, and `new` makes one. So no call is refused with 12 after another.
 -- Assumes nothing.
-use Prim.Native.Nat.{ℕ, zero, suc, _+_, _-_, _*_, _≤_, _<_, zero-le}
+use Prim.Native.Nat.{ℕ, zero, suc, _+_, _-_, _≤_, _<_, zero-le}
 use mathlib.Core.Path.{_≡_, refl, sym, _∙_}
 use mathlib.Core.Bool.{Bool, true, false, true≢false}
 use mathlib.Core.Option.{Option, none, some}
 use mathlib.Core.List.{List, [], _∷_}
 use native.Mathlib.Omega.{arith}
 use native.Mathlib.Decide.{ℕ-discrete}
-use native.Mathlib.Nat.{le-refl, le-of-lt, add-assoc}
-use lib.ListN.{length, set, getD, replicate, length-set, length-replicate}
-use lib.Seq.{getD-set-same, getD-set-other, set-out, length-paste}
+use native.Mathlib.Nat.{le-of-lt, add-assoc}
+use lib.ListN.{length, set, getD}
+use lib.Seq.{getD-set-same, getD-set-other, set-out}
 use Rattle.refusal.specs.Said.{answers}
 use Rattle.lists.specs.Numbers.{largest}
 use Rattle.lists.proofs.Pad.{getD-all, getD-moved}
+use Rattle.lists.proofs.Order.{either}
 use Rattle.ordered_bytes.specs.declared.OrderedBytes.{OrderedBytes}
-use Rattle.ordered_bytes.specs.Receiver.{isHeld, anyHeld, consumed, consumedPieces}
+use Rattle.ordered_bytes.specs.Receiver.{isHeld, anyHeld, consumed}
 use Rattle.ordered_bytes.specs.Buffer.{Buffer, slots, width, slotAt, view, wellFormed, cleared, wrap, stored, taken}
 use Rattle.ordered_bytes.specs.Calls.{creating, starting, accepting, consuming, consumingBytes}
 use Rattle.ordered_bytes.proofs.WellFormed.{Shaped, Good, is-good}
-use Rattle.lists.proofs.Order.{either}
-use Rattle.slots.proofs.Ring.{length-cleared}
-use Rattle.ordered_bytes.proofs.View.{fresh, view-fresh, slot-below, slot-ends, store-long, length-held, length-carry, held-small, stored-held, taken-held}
-use Rattle.ordered_bytes.proofs.Walk.{took-few, consumed-took, consumed-carries, pieces-took}
-use Rattle.ordered_bytes.proofs.Outcome.{Creating, makes, create-ways, renumbered, Starting, holds, starts, start-ways, Acceptable, Accepting, malformed, refused, stores, accept-ways, Consuming, short, reads, consume-ways, ConsumingBytes, empty, consume-bytes-ways}
+use Rattle.ordered_bytes.proofs.View.{fresh, view-fresh, slot-below, stored-held, taken-held}
+use Rattle.ordered_bytes.proofs.Outcome.{malformed, makes, create-ways, renumbered, holds, starts, start-ways}
+use Rattle.ordered_bytes.proofs.Outcome.{Acceptable, accept-case, consume-case, consume-bytes-case}
+use Rattle.ordered_bytes.proofs.Sizes.{still-shaped, stored-sizes, taken-sizes, fresh-sizes, consume-fits, pieces-fit}
 
 -- ---- the lengths
 
@@ -51,20 +51,12 @@ stored-good : {b : Buffer} {n : ℕ} {p : List ℕ} → n ≤ largest → Accept
 stored-good {b} {n} {p} number a =
     let g = a .well in
     let d = n - b .state .«front_number» in
-    let i = slotAt b d in
-    let here : i < slots b = slot-below g (le-of-lt (a .near)) in
+    let same = stored-sizes p g (slot-below g (le-of-lt (a .near))) (a .fits) in
     record {
-      shape = record {
-        some-slots = rw length-set (g .shape .some-slots);
-        few-slots = rw length-set (g .shape .few-slots);
-        some-width = g .shape .some-width;
-        small-width = g .shape .small-width;
-        lengths-n = simp length-set (g .shape .lengths-n);
-        store-n = length-paste (b .store) (i * width b) p (length p) (omega (arith, store-long g, slot-ends g here, a .fits)) (le-refl _) ∙ rw length-set (g .shape .store-n);
-      };
-      front-n = rw length-set (g .front-n);
+      shape = still-shaped same (g .shape);
+      front-n = rw (same .many) (g .front-n);
       carry-w = g .carry-w;
-      lengths-w = set-within (b .lengths) i (length p) (width b) (a .fits) (g .lengths-w);
+      lengths-w = set-within (b .lengths) (slotAt b d) (length p) (width b) (a .fits) (g .lengths-w);
       numbers = rw (stored-held g p (a .near) (a .fits)) (set-numbers (view b .held) (b .state .«front_number») d p (g .numbers) (omega (arith, a .low, a .last)));
     }
 
@@ -72,20 +64,12 @@ stored-good {b} {n} {p} number a =
 
 taken-good : {b : Buffer} {k : ℕ} (c : List ℕ) → Good b → k ≤ slots b → length c ≤ width b → Good (taken b k c)
 taken-good {b} {k} c g few fits =
-    let front = b .state .«front_slot» in
-    let n : slots (taken b k c) ≡ slots b = length-cleared (slots b) false front k (b .marks) in
+    let same = taken-sizes k c g fits in
     record {
-      shape = record {
-        some-slots = rw n (g .shape .some-slots);
-        few-slots = rw n (g .shape .few-slots);
-        some-width = g .shape .some-width;
-        small-width = g .shape .small-width;
-        lengths-n = length-cleared (slots b) 0 front k (b .lengths) ∙ g .shape .lengths-n ∙ sym n;
-        store-n = length-paste (b .store) (slots b * width b) c (length c) (omega (arith, store-long g)) (le-refl _) ∙ rw n (g .shape .store-n);
-      };
-      front-n = rw n (slot-below g few);
+      shape = still-shaped same (g .shape);
+      front-n = rw (same .many) (slot-below g few);
       carry-w = fits;
-      lengths-w = cleared-within (slots b) front k (width b) (b .lengths) (g .lengths-w);
+      lengths-w = cleared-within (slots b) (b .state .«front_slot») k (width b) (b .lengths) (g .lengths-w);
       numbers = λ d h. rw add-assoc (g .numbers (k + d) (rw (taken-held g c few fits, getD-moved none (view b .held) k d) at h));
     }
 
@@ -100,17 +84,10 @@ none-held (some p ∷ held) e d = absurd (true≢false e)
 
 fresh-good : {w : ℕ} (s : ℕ) {marks : List Bool} {lengths store : List ℕ} → Shaped w marks lengths store → Good (fresh w s marks lengths store)
 fresh-good {w} s {marks} {lengths} {store} h =
-    let n : length (replicate (length marks) false) ≡ length marks = length-replicate (length marks) false in
+    let same = fresh-sizes w s marks lengths store in
     record {
-      shape = record {
-        some-slots = rw n (h .some-slots);
-        few-slots = rw n (h .few-slots);
-        some-width = h .some-width;
-        small-width = h .small-width;
-        lengths-n = length-replicate (length lengths) 0 ∙ h .lengths-n ∙ sym n;
-        store-n = rw n (h .store-n);
-      };
-      front-n = rw n (h .some-slots);
+      shape = still-shaped same h;
+      front-n = rw (same .many) (h .some-slots);
       carry-w = zero-le;
       lengths-w = λ i. rw (getD-all {A = ℕ} 0 (length lengths) i) zero-le;
       numbers = λ d held. absurd (true≢false (sym held ∙ rw (view-fresh w s marks lengths store, getD-all {A = Option (List ℕ)} none (length marks) d)));
@@ -131,52 +108,30 @@ renumbered-good {b} s g free = record {
 -- `new` leaves a buffer that is well formed
 pub create-kept : (w s : ℕ) (marks : List Bool) (lengths store : List ℕ) {o : OrderedBytes} → creating w s marks lengths store .said ≡ answers o
     → wellFormed (record { state = o; marks = creating w s marks lengths store .marks; lengths = creating w s marks lengths store .lengths; store = store }) ≡ true
-create-kept w s marks lengths store {o} said = by (create-ways w s marks lengths store)
-  where
-    by : Creating w s marks lengths store
-        → wellFormed (record { state = o; marks = creating w s marks lengths store .marks; lengths = creating w s marks lengths store .lengths; store = store }) ≡ true
-    by (malformed m e) = absurd (let z : _≡_ {A = ℕ} 0 1 = cc in omega arith)
-    by (makes h e) = let q : o ≡ fresh w s marks lengths store .state = cc in rw (q, e) (is-good (fresh-good s h))
+create-kept w s marks lengths store {o} said =
+    elim (create-ways w s marks lengths store) [
+      | malformed m e ↦ absurd (let z : _≡_ {A = ℕ} 0 1 = cc in omega arith)
+      | makes h e ↦ let q : o ≡ fresh w s marks lengths store .state = cc in rw (q, e) (is-good (fresh-good s h))
+    ]
 
 pub start-kept : (b : Buffer) (s : ℕ) {o : OrderedBytes} → starting b s ≡ answers o
     → wellFormed (record { state = o; marks = b .marks; lengths = b .lengths; store = b .store }) ≡ true
-start-kept b s {o} said = by (start-ways b s)
-  where
-    by : Starting b s → wellFormed (record { state = o; marks = b .marks; lengths = b .lengths; store = b .store }) ≡ true
-    by (malformed m e) = absurd (let z : _≡_ {A = ℕ} 0 1 = cc in omega arith)
-    by (holds g h e) = absurd (let z : _≡_ {A = ℕ} 0 1 = cc in omega arith)
-    by (starts g h e) = let q : o ≡ renumbered b s .state = cc in rw q (is-good (renumbered-good s g h))
-
--- what a read takes and carries over fits the buffer
-pub consume-fits : {b : Buffer} → Good b → (len : ℕ) → (consumed (view b) len .packets ≤ slots b) × (length (consumed (view b) len .carry) ≤ width b)
-consume-fits {b} g len =
-    (rw length-held at (took-few (consumed-took (view b) len)), consumed-carries (view b) len (rw (length-carry g) (g .carry-w)) (held-small g))
-
-pub pieces-fit : (b : Buffer) (limit : ℕ) → consumedPieces (view b) limit .packets ≤ slots b
-pieces-fit b limit = rw length-held at (took-few (pieces-took (view b) limit))
+start-kept b s {o} said =
+    elim (start-ways b s) [
+      | malformed m e ↦ absurd (let z : _≡_ {A = ℕ} 0 1 = cc in omega arith)
+      | holds g h e ↦ absurd (let z : _≡_ {A = ℕ} 0 1 = cc in omega arith)
+      | starts g h e ↦ let q : o ≡ renumbered b s .state = cc in rw q (is-good (renumbered-good s g h))
+    ]
 
 -- n is a packet number
 pub accept-kept : (b : Buffer) (n : ℕ) (payload : List ℕ) → n ≤ largest → wellFormed b ≡ true → wellFormed (accepting b n payload .buffer) ≡ true
-accept-kept b n payload number w = by (accept-ways b n payload)
-  where
-    by : Accepting b n payload → wellFormed (accepting b n payload .buffer) ≡ true
-    by (malformed m e) = rw e w
-    by (refused r g f e) = rw e w
-    by (stores a e) = rw e (is-good (stored-good number a))
+accept-kept b n payload number w = accept-case b n payload (λ o. wellFormed (o .buffer) ≡ true) (λ r. w) (λ a. is-good (stored-good number a))
 
 pub consume-kept : (b : Buffer) (len : ℕ) (out : List ℕ) → wellFormed b ≡ true → wellFormed (consuming b len out .buffer) ≡ true
-consume-kept b len out w = by (consume-ways b len out)
-  where
-    by : Consuming b len out → wellFormed (consuming b len out .buffer) ≡ true
-    by (malformed m e) = rw e w
-    by (short g s e) = rw e w
-    by (reads g s e) = let fit = consume-fits g len in rw e (is-good (taken-good (consumed (view b) len .carry) g (fit .0) (fit .1)))
+consume-kept b len out w =
+    consume-case b len out (λ o. wellFormed (o .buffer) ≡ true) (λ r other. w)
+    (λ g room. let fit = consume-fits g len in is-good (taken-good (consumed (view b) len .carry) g (fit .0) (fit .1)))
 
 pub consume-bytes-kept : (b : Buffer) (limit : ℕ) (out list : List ℕ) → wellFormed b ≡ true → wellFormed (consumingBytes b limit out list .buffer) ≡ true
-consume-bytes-kept b limit out list w = by (consume-bytes-ways b limit out list)
-  where
-    by : ConsumingBytes b limit out list → wellFormed (consumingBytes b limit out list .buffer) ≡ true
-    by (malformed m e) = rw e w
-    by (short g s e) = rw e w
-    by (empty g s e) = rw e w
-    by (reads g o l s e) = rw e (is-good (taken-good [] g (pieces-fit b limit) zero-le))
+consume-bytes-kept b limit out list w =
+    consume-bytes-case b limit out list (λ o. wellFormed (o .buffer) ≡ true) (λ r none-left. w) (λ g room any. is-good (taken-good [] g (pieces-fit b limit) zero-le))

@@ -2,7 +2,9 @@ pub mod WellFormed
 pub mod View
 pub mod Walk
 pub mod Outcome
+pub mod Sizes
 pub mod Kept
+pub mod Refused
 pub mod Reading
 pub mod Places
 pub mod Tests

@@ -6,6 +6,7 @@ use mathlib.Core.Logic.{_⊎_, inl, inr, _≢_}
 use mathlib.Core.Bool.{Bool, true, false, not}
 use mathlib.Core.Option.{none}
 use mathlib.Core.List.{List, _∷_, map, flatten}
+use native.Mathlib.Omega.{arith}
 use lib.ListN.{length}
 use lib.Seq.{paste}
 use lib.Dec.{ltb, eqb}
@@ -15,7 +16,7 @@ use Rattle.refusal.proofs.Checks.{Failed, Checked, passes, fails, checked}
 use Rattle.lists.specs.Numbers.{largest}
 use Rattle.ordered_bytes.specs.Receiver.{isHeld, placeAt, acceptChecks, consumed, consumedPieces, pieces, anyHeld}
 use Rattle.ordered_bytes.specs.Buffer.{Buffer, slots, width, slotAt, view, wellFormed, shapeFits, stored, taken}
-use Rattle.ordered_bytes.specs.Calls.{creating, starting, Acceptance, accepting, given, consuming, PieceConsumption, consumingBytes}
+use Rattle.ordered_bytes.specs.Calls.{creating, starting, Acceptance, accepting, Consumption, given, consuming, PieceConsumption, consumingBytes}
 use Rattle.ordered_bytes.proofs.WellFormed.{Shaped, shaped, Good, good}
 use Rattle.ordered_bytes.proofs.View.{fresh, length-held}
 
@@ -23,7 +24,7 @@ module _ (w s : ℕ) (marks : List Bool) (lengths store : List ℕ) where
   pub data Creating : Type 0 where
     malformed : shapeFits w marks lengths store ≡ false → creating w s marks lengths store ≡ record { said = refuses 12; marks = marks; lengths = lengths } → Creating
     makes : Shaped w marks lengths store
-        → creating w s marks lengths store ≡ record { said = answers (fresh w s marks lengths store .state); marks = fresh w s marks lengths store .marks; lengths = fresh w s marks lengths store .lengths } → Creating
+        → (let b = fresh w s marks lengths store in creating w s marks lengths store ≡ record { said = answers (b .state); marks = b .marks; lengths = b .lengths }) → Creating
 
   pub create-ways : Creating
   unfolding creating
@@ -94,6 +95,16 @@ module _ (b : Buffer) (n : ℕ) (payload : List ℕ) where
         fits = ltb-false (width b) (length payload) (p .1 .1 .1 .1 .1 .0);
       }) e
 
+  -- what holds of a refusal that leaves all as it came, and of the stored payload where the checks pass, holds of accepting
+  pub accept-case : (P : Acceptance → Type 0) → ((r : ℕ) → P (record { said = refuses r; buffer = b }))
+      → (Acceptable → P (record { said = answers tt; buffer = stored b (slotAt b (n - b .state .«front_number»)) payload })) → P (accepting b n payload)
+  accept-case P refusing passing =
+      elim accept-ways [
+        | malformed m e ↦ rw e (refusing 12)
+        | refused r g f e ↦ rw e (refusing r)
+        | stores a e ↦ rw e (passing a)
+      ]
+
 module _ (b : Buffer) (len : ℕ) (out : List ℕ) where
   pub data Consuming : Type 0 where
     malformed : wellFormed b ≡ false → consuming b len out ≡ record { said = refuses 12; buffer = b; out = out } → Consuming
@@ -108,6 +119,16 @@ module _ (b : Buffer) (len : ℕ) (out : List ℕ) where
       by false less e f = malformed e (rw e)
       by true true e f = short (good e) (ltb-true _ _ f) (rw (e, f))
       by true false e f = reads (good e) (ltb-false _ _ f) (rw (e, f))
+
+  -- what holds of a refusal but 8, and of what is given, holds of `consume`
+  pub consume-case : (P : Consumption → Type 0) → ((r : ℕ) → r ≢ 8 → P (record { said = refuses r; buffer = b; out = out }))
+      → (Good b → len ≤ length out → P (given b (consumed (view b) len) out)) → P (consuming b len out)
+  consume-case P refusing passing =
+      elim consume-ways [
+        | malformed m e ↦ rw e (refusing 12 (λ q. omega arith))
+        | short g s e ↦ rw e (refusing 10 (λ q. omega arith))
+        | reads g s e ↦ rw e (passing g s)
+      ]
 
 -- what `consume_bytes` leaves where no check holds
 abbrev pub givenPieces : Buffer → ℕ → List ℕ → List ℕ → PieceConsumption
@@ -143,3 +164,16 @@ module _ (b : Buffer) (limit : ℕ) (out list : List ℕ) where
       by true false true zero e f g h = short (good e) (inr (ltb-true _ _ g)) (rw (e, f, g))
       by true false false true e f g h = empty (good e) (eqb-true _ _ h) (rw (e, f, g, h))
       by true false false false e f g h = reads (good e) (ltb-false _ _ f) (ltb-false _ _ g) (eqb-false _ _ h) (rw (e, f, g, h))
+
+  -- what holds of a refusal, 8 only where there is no piece, and of what is given, holds of `consume_bytes`
+  pub consume-bytes-case : (P : PieceConsumption → Type 0)
+      → ((r : ℕ) → (r ≡ 8 → length (pieces (view b) limit) ≡ 0) → P (record { said = refuses r; buffer = b; out = out; list = list }))
+      → (Good b → length (flatten (pieces (view b) limit)) ≤ length out → length (pieces (view b) limit) ≢ 0 → P (givenPieces b limit out list))
+      → P (consumingBytes b limit out list)
+  consume-bytes-case P refusing passing =
+      elim consume-bytes-ways [
+        | malformed m e ↦ rw e (refusing 12 (λ q. absurd (omega arith)))
+        | short g s e ↦ rw e (refusing 10 (λ q. absurd (omega arith)))
+        | empty g s e ↦ rw e (refusing 8 (λ q. s))
+        | reads g room cells any e ↦ rw e (passing g room any)
+      ]

@@ -20,29 +20,21 @@ use Rattle.ordered_bytes.specs.Calls.{accepting, consuming, consumingByt
 use Rattle.ordered_bytes.proofs.WellFormed.{Good}
 use Rattle.ordered_bytes.proofs.View.{view-stored, view-taken}
 use Rattle.ordered_bytes.proofs.Walk.{Took, consumed-took, consumed-gives, consumed-some, consumed-none, consumed-dry, pieces-took, pieces-some, pieces-dry}
-use Rattle.ordered_bytes.proofs.Outcome.{Acceptable, Accepting, malformed, refused, stores, accept-ways, Consuming, short, reads, consume-ways, ConsumingBytes, empty, consume-bytes-ways}
-use Rattle.ordered_bytes.proofs.Kept.{consume-fits, pieces-fit}
+use Rattle.ordered_bytes.proofs.Outcome.{Acceptable, accept-case, consume-case, consume-bytes-case}
+use Rattle.ordered_bytes.proofs.Sizes.{consume-fits, pieces-fit}
+
+-- a refusal is no answer
+unlike : {A : Type 0} {v : A} {r : ℕ} → _≡_ {A = Said A} (refuses r) (answers v) → ⊥
+unlike e = let z : _≡_ {A = ℕ} 0 1 = cc in omega arith
 
 -- ---- accepting
 
 module _ (b : Buffer) (n : ℕ) (payload : List ℕ) where
   -- one payload at its distance
   pub accept-stores : accepting b n payload .said ≡ answers tt → Acceptable b n payload × (view (accepting b n payload .buffer) ≡ accepted (view b) n payload)
-  accept-stores said = by (accept-ways b n payload)
-    where
-      by : Accepting b n payload → Acceptable b n payload × (view (accepting b n payload .buffer) ≡ accepted (view b) n payload)
-      by (malformed m e) = absurd (let z : _≡_ {A = ℕ} 0 1 = cc in omega arith)
-      by (refused r g f e) = absurd (let z : _≡_ {A = ℕ} 0 1 = cc in omega arith)
-      by (stores a e) = (a, rw e (view-stored (a .well) n payload (a .near) (a .fits)))
-
-  -- refused, all stays
-  pub accept-refused : {r : ℕ} → accepting b n payload .said ≡ refuses r → accepting b n payload .buffer ≡ b
-  accept-refused {r} said = by (accept-ways b n payload)
-    where
-      by : Accepting b n payload → accepting b n payload .buffer ≡ b
-      by (malformed m e) = rw e
-      by (refused s g f e) = rw e
-      by (stores a e) = absurd (let z : _≡_ {A = ℕ} 0 1 = cc in omega arith)
+  accept-stores =
+      accept-case b n payload (λ o. o .said ≡ answers tt → Acceptable b n payload × (view (o .buffer) ≡ accepted (view b) n payload))
+      (λ r said. absurd (unlike said)) (λ a said. (a, view-stored (a .well) n payload (a .near) (a .fits)))
 
 -- ---- reading
 
@@ -105,7 +97,7 @@ says-values x {v} = by (x .empty)
   where
     by : (none : Bool) → _≡_ {A = Said (ℕ × ℕ × ℕ)} (cond none (refuses 8) (answers (x .packets, x .base, length (x .bytes)))) (answers v)
         → (none ≡ false) × (v ≡ (x .packets, x .base, length (x .bytes)))
-    by true e = absurd (let z : _≡_ {A = ℕ} 0 1 = cc in omega arith)
+    by true e = absurd (unlike e)
     by false e = (refl, cc)
 
 says-eight : (x : Read) {r : ℕ} → says x ≡ refuses r → (x .empty ≡ true) × (r ≡ 8)
@@ -113,68 +105,52 @@ says-eight x {r} = by (x .empty)
   where
     by : (none : Bool) → _≡_ {A = Said (ℕ × ℕ × ℕ)} (cond none (refuses 8) (answers (x .packets, x .base, length (x .bytes)))) (refuses r) → (none ≡ true) × (r ≡ 8)
     by true e = (refl, cc)
-    by false e = absurd (let z : _≡_ {A = ℕ} 0 1 = cc in omega arith)
+    by false e = absurd (unlike (sym e))
 
 module _ (b : Buffer) (len : ℕ) (out : List ℕ) where
   pub consume-gives : {v : ℕ × ℕ × ℕ} → consuming b len out .said ≡ answers v → Gives b out v (consuming b len out .buffer) (consuming b len out .out)
-  consume-gives {v} said = by (consume-ways b len out)
-    where
-      by : Consuming b len out → Gives b out v (consuming b len out .buffer) (consuming b len out .out)
-      by (malformed m e) = absurd (let z : _≡_ {A = ℕ} 0 1 = cc in omega arith)
-      by (short g s e) = absurd (let z : _≡_ {A = ℕ} 0 1 = cc in omega arith)
-      by (reads g s e) =
-          let x = consumed (view b) len in
-          let a = says-values x (rw e at said) in
-          let fit = consume-fits g len in
-          rw (e, a .1) (taken-gives x g (consumed-took (view b) len) (fit .0) (fit .1) out (omega (arith, consumed-gives (view b) len)))
+  consume-gives {v} =
+      consume-case b len out (λ o. o .said ≡ answers v → Gives b out v (o .buffer) (o .out))
+      (λ r other said. absurd (unlike said))
+      (λ g room said.
+      let x = consumed (view b) len in
+      let fit = consume-fits g len in
+      rw (says-values x said .1) (taken-gives x g (consumed-took (view b) len) (fit .0) (fit .1) out (omega (arith, consumed-gives (view b) len))))
 
   -- asked for a byte at least, an answer gives one at least
   pub consume-some : {v : ℕ × ℕ × ℕ} → consuming b len out .said ≡ answers v → 0 < len → 0 < v .2
-  consume-some {v} said asked = by (consume-ways b len out)
-    where
-      by : Consuming b len out → 0 < v .2
-      by (malformed m e) = absurd (let z : _≡_ {A = ℕ} 0 1 = cc in omega arith)
-      by (short g s e) = absurd (let z : _≡_ {A = ℕ} 0 1 = cc in omega arith)
-      by (reads g s e) =
-          let a = says-values (consumed (view b) len) (rw e at said) in
-          rw (a .1) (consumed-some (view b) len asked (a .0))
+  consume-some {v} =
+      consume-case b len out (λ o. o .said ≡ answers v → 0 < len → 0 < v .2)
+      (λ r other said. absurd (unlike said))
+      (λ g room said asked. let a = says-values (consumed (view b) len) said in rw (a .1) (consumed-some (view b) len asked (a .0)))
 
   -- 8: the output stays
   pub consume-empty : consuming b len out .said ≡ refuses 8 → Empties b (consuming b len out .buffer) × (consuming b len out .out ≡ out)
-  consume-empty said = by (consume-ways b len out)
-    where
-      by : Consuming b len out → Empties b (consuming b len out .buffer) × (consuming b len out .out ≡ out)
-      by (malformed m e) = absurd (let z : _≡_ {A = ℕ} 12 8 = cc in omega arith)
-      by (short g s e) = absurd (let z : _≡_ {A = ℕ} 10 8 = cc in omega arith)
-      by (reads g s e) =
-          let x = consumed (view b) len in
-          let a = says-eight x (rw e at said) in
-          let nil : x .bytes ≡ [] = sym (take-length (x .bytes)) ∙ rw (consumed-none (view b) len (a .0)) in
-          let fit = consume-fits g len in
-          rw e (taken-empties x g (consumed-took (view b) len) (fit .0) (fit .1) nil, rw nil)
+  consume-empty =
+      consume-case b len out (λ o. o .said ≡ refuses 8 → Empties b (o .buffer) × (o .out ≡ out))
+      (λ r other said. absurd (other (cc)))
+      (λ g room said.
+      let x = consumed (view b) len in
+      let nil : x .bytes ≡ [] = sym (take-length (x .bytes)) ∙ rw (consumed-none (view b) len (says-eight x said .0)) in
+      let fit = consume-fits g len in
+      (taken-empties x g (consumed-took (view b) len) (fit .0) (fit .1) nil, rw nil))
 
   -- 8, asked for a byte at least: nothing was left to give
   pub consume-dry : consuming b len out .said ≡ refuses 8 → 0 < len → Dry (consuming b len out .buffer)
-  consume-dry said asked = by (consume-ways b len out)
-    where
-      by : Consuming b len out → Dry (consuming b len out .buffer)
-      by (malformed m e) = absurd (let z : _≡_ {A = ℕ} 12 8 = cc in omega arith)
-      by (short g s e) = absurd (let z : _≡_ {A = ℕ} 10 8 = cc in omega arith)
-      by (reads g s e) =
-          let x = consumed (view b) len in
-          let a = says-eight x (rw e at said) in
-          let fit = consume-fits g len in
-          let dry = consumed-dry (view b) len asked (a .0) in
-          rw e (taken-dry x g (consumed-took (view b) len) (fit .0) (fit .1) (dry .0) (dry .1))
+  consume-dry =
+      consume-case b len out (λ o. o .said ≡ refuses 8 → 0 < len → Dry (o .buffer))
+      (λ r other said. absurd (other (cc)))
+      (λ g room said asked.
+      let x = consumed (view b) len in
+      let fit = consume-fits g len in
+      let dry = consumed-dry (view b) len asked (says-eight x said .0) in
+      taken-dry x g (consumed-took (view b) len) (fit .0) (fit .1) (dry .0) (dry .1))
 
   -- another refusal: all stays
   pub consume-refused : {r : ℕ} → consuming b len out .said ≡ refuses r → r ≢ 8 → (consuming b len out .buffer ≡ b) × (consuming b len out .out ≡ out)
-  consume-refused {r} said other = by (consume-ways b len out)
-    where
-      by : Consuming b len out → (consuming b len out .buffer ≡ b) × (consuming b len out .out ≡ out)
-      by (malformed m e) = (rw e, rw e)
-      by (short g s e) = (rw e, rw e)
-      by (reads g s e) = absurd (other (says-eight (consumed (view b) len) (rw e at said) .1))
+  consume-refused {r} =
+      consume-case b len out (λ o. o .said ≡ refuses r → r ≢ 8 → (o .buffer ≡ b) × (o .out ≡ out))
+      (λ q other said not-8. (refl, refl)) (λ g room said not-8. absurd (not-8 (says-eight (consumed (view b) len) said .1)))
 
 -- ---- `consume_bytes`
 
@@ -185,46 +161,30 @@ module _ (b : Buffer) (limit : ℕ) (out list : List ℕ) where
   -- the first of its values are those of a read
   pub consume-bytes-gives : {v : (ℕ × ℕ × ℕ) × ℕ} → consumingBytes b limit out list .said ≡ answers v
       → Gives b out (v .0) (consumingBytes b limit out list .buffer) (consumingBytes b limit out list .out)
-  consume-bytes-gives {v} said = by (consume-bytes-ways b limit out list)
-    where
-      by : ConsumingBytes b limit out list → Gives b out (v .0) (consumingBytes b limit out list .buffer) (consumingBytes b limit out list .out)
-      by (malformed w e) = absurd (let z : _≡_ {A = ℕ} 0 1 = cc in omega arith)
-      by (short g s e) = absurd (let z : _≡_ {A = ℕ} 0 1 = cc in omega arith)
-      by (empty g s e) = absurd (let z : _≡_ {A = ℕ} 0 1 = cc in omega arith)
-      by (reads g room cells any e) =
-          rw (e, values-same (rw e at said)) (taken-gives (consumedPieces (view b) limit) g (pieces-took (view b) limit) (pieces-fit b limit) zero-le out room)
+  consume-bytes-gives {v} =
+      consume-bytes-case b limit out list (λ o. o .said ≡ answers v → Gives b out (v .0) (o .buffer) (o .out))
+      (λ r none-left said. absurd (unlike said))
+      (λ g room any said. rw (values-same said) (taken-gives (consumedPieces (view b) limit) g (pieces-took (view b) limit) (pieces-fit b limit) zero-le out room))
 
   -- an answer takes a packet or gives a byte
   pub consume-bytes-some : {v : (ℕ × ℕ × ℕ) × ℕ} → consumingBytes b limit out list .said ≡ answers v → 0 < v .0 .0 + v .0 .2
-  consume-bytes-some {v} said = by (consume-bytes-ways b limit out list)
-    where
-      by : ConsumingBytes b limit out list → 0 < v .0 .0 + v .0 .2
-      by (malformed w e) = absurd (let z : _≡_ {A = ℕ} 0 1 = cc in omega arith)
-      by (short g s e) = absurd (let z : _≡_ {A = ℕ} 0 1 = cc in omega arith)
-      by (empty g s e) = absurd (let z : _≡_ {A = ℕ} 0 1 = cc in omega arith)
-      by (reads g room cells any e) = rw (values-same (rw e at said)) (pieces-some (view b) limit any)
+  consume-bytes-some {v} =
+      consume-bytes-case b limit out list (λ o. o .said ≡ answers v → 0 < v .0 .0 + v .0 .2)
+      (λ r none-left said. absurd (unlike said)) (λ g room any said. rw (values-same said) (pieces-some (view b) limit any))
 
   -- any refusal: all stays
   pub consume-bytes-refused : {r : ℕ} → consumingBytes b limit out list .said ≡ refuses r
       → (consumingBytes b limit out list .buffer ≡ b) × (consumingBytes b limit out list .out ≡ out) × (consumingBytes b limit out list .list ≡ list)
-  consume-bytes-refused {r} said = by (consume-bytes-ways b limit out list)
-    where
-      by : ConsumingBytes b limit out list
-          → (consumingBytes b limit out list .buffer ≡ b) × (consumingBytes b limit out list .out ≡ out) × (consumingBytes b limit out list .list ≡ list)
-      by (malformed w e) = (rw e, rw e, rw e)
-      by (short g s e) = (rw e, rw e, rw e)
-      by (empty g s e) = (rw e, rw e, rw e)
-      by (reads g room cells any e) = absurd (let z : _≡_ {A = ℕ} 0 1 = cc in omega arith)
+  consume-bytes-refused {r} =
+      consume-bytes-case b limit out list (λ o. o .said ≡ refuses r → (o .buffer ≡ b) × (o .out ≡ out) × (o .list ≡ list))
+      (λ q none-left said. (refl, refl, refl)) (λ g room any said. absurd (unlike (sym said)))
 
   -- 8, asked for a piece at least: nothing was left to give
   pub consume-bytes-dry : consumingBytes b limit out list .said ≡ refuses 8 → 0 < limit → Dry (consumingBytes b limit out list .buffer)
-  consume-bytes-dry said asked = by (consume-bytes-ways b limit out list)
-    where
-      by : ConsumingBytes b limit out list → Dry (consumingBytes b limit out list .buffer)
-      by (malformed w e) = absurd (let z : _≡_ {A = ℕ} 12 8 = cc in omega arith)
-      by (short g s e) = absurd (let z : _≡_ {A = ℕ} 10 8 = cc in omega arith)
-      by (empty g s e) = let dry = pieces-dry (view b) limit asked s in rw e (record { carry = dry .0; front = dry .1 })
-      by (reads g room cells any e) = absurd (let z : _≡_ {A = ℕ} 0 1 = cc in omega arith)
+  consume-bytes-dry =
+      consume-bytes-case b limit out list (λ o. o .said ≡ refuses 8 → 0 < limit → Dry (o .buffer))
+      (λ r none-left said asked. let dry = pieces-dry (view b) limit asked (none-left (cc)) in record { carry = dry .0; front = dry .1 })
+      (λ g room any said. absurd (unlike (sym said)))
 
 -- ---- reading comes to an end
 
@@ -265,10 +225,6 @@ pub consume-lowers : (b : Buffer) (len : ℕ) (out : List ℕ) {v : ℕ × ℕ �
 consume-lowers b len out said asked =
     let g = consume-gives b len out said in
     omega (arith, takes-weight (g .takes), g .gave, consume-some b len out said asked)
-
--- an 8 leaves no more
-pub consume-empty-lowers : (b : Buffer) (len : ℕ) (out : List ℕ) → consuming b len out .said ≡ refuses 8 → weight (consuming b len out .buffer) ≤ weight b
-consume-empty-lowers b len out said = omega (arith, takes-weight (consume-empty b len out said .0 .takes))
 
 pub consume-bytes-lowers : (b : Buffer) (limit : ℕ) (out list : List ℕ) {v : (ℕ × ℕ × ℕ) × ℕ} → consumingBytes b limit out list .said ≡ answers v
     → weight (consumingBytes b limit out list .buffer) < weight b

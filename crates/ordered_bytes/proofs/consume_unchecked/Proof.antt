@@ -5,7 +5,7 @@ use borrow.Author.Tests.{lt-ltb, le-ltb}
 use Rattle.ordered_bytes.specs.Buffer.{Buffer, bufferOf}
 use Rattle.ordered_bytes.specs.Calls.{consuming}
 use Rattle.ordered_bytes.proofs.WellFormed.{Good, good}
-use Rattle.ordered_bytes.proofs.Kept.{consume-fits}
+use Rattle.ordered_bytes.proofs.Sizes.{consume-fits}
 use Rattle.ordered_bytes.proofs.Given.{consumed-fits, read-given}
 use Rattle.ordered_bytes.proofs.consume_unchecked.Statement.{statement}
 use Rattle.ordered_bytes.proofs.consume_unchecked.Tie as tie

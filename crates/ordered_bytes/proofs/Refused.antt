@@ -1,0 +1,93 @@
+-- Which refusals a call on a well-formed buffer may answer: a read answers, or says 8 or 10, and no call says 12.
+-- Assumes nothing.
+use Prim.Native.Nat.{ℕ, _-_}
+use mathlib.Core.Path.{_≡_, refl, sym, _∙_}
+use mathlib.Core.Bool.{Bool, true, false, true≢false, not, cond}
+use mathlib.Core.List.{List, [], _∷_}
+use native.Mathlib.Omega.{arith}
+use lib.Dec.{eqb}
+use borrow.Author.Tests.{eqb-false}
+use Rattle.refusal.specs.Said.{Said, answers, refuses, refusalIn, checks}
+use Rattle.ordered_bytes.specs.Receiver.{acceptChecks, consumed, anyHeld, available}
+use Rattle.ordered_bytes.specs.Buffer.{Buffer, slotAt, view, wellFormed, stored}
+use Rattle.ordered_bytes.specs.Calls.{starting, Acceptance, accepting, peeking, consuming, consumingBytes}
+use Rattle.ordered_bytes.proofs.Outcome.{malformed, short, reads, consume-ways, empty, consume-bytes-ways}
+
+-- ---- the ends of a read
+
+-- a read of a well-formed buffer answers, or is refused with 8 or with 10
+pub data Ends {A : Type 0} (said : Said A) : Type 0 where
+  values : (v : A) → said ≡ answers v → Ends said
+  eight : said ≡ refuses 8 → Ends said
+  ten : said ≡ refuses 10 → Ends said
+
+ends-never : {A : Type 0} {said : Said A} → Ends said → refusalIn said ≡ 12 → ⊥
+ends-never (values v e) h = let z : _≡_ {A = ℕ} 0 12 = rw e at h in omega arith
+ends-never (eight e) h = let z : _≡_ {A = ℕ} 8 12 = rw e at h in omega arith
+ends-never (ten e) h = let z : _≡_ {A = ℕ} 10 12 = rw e at h in omega arith
+
+pub ends-eight : {A : Type 0} {said : Said A} → Ends said → refusalIn said ≡ 8 → said ≡ refuses 8
+ends-eight (values v e) h = absurd (let z : _≡_ {A = ℕ} 0 8 = rw e at h in omega arith)
+ends-eight (eight e) h = e
+ends-eight (ten e) h = absurd (let z : _≡_ {A = ℕ} 10 8 = rw e at h in omega arith)
+
+given-ends : {A : Type 0} (none : Bool) (v : A) → Ends (cond none (refuses 8) (answers v))
+given-ends true v = eight refl
+given-ends false v = values v refl
+
+-- ---- checks of other numbers than 12 do not refuse with 12
+
+abbrev Others : List (Bool × ℕ) → Type 0
+Others [] = Unit
+Others (c ∷ cs) = (eqb (c .1) 12 ≡ false) × Others cs
+
+module _ {A : Type 0} (number : A → ℕ) (refusing : ℕ → A) (passing : A) (is : (r : ℕ) → number (refusing r) ≡ r) (other : number passing ≡ 12 → ⊥) where
+  never : (cs : List (Bool × ℕ)) → Others cs → number (checks cs refusing passing) ≡ 12 → ⊥
+  never [] o = other
+  never (c ∷ cs) o = by (c .0) (never cs (o .1))
+    where
+      by : (holds : Bool) → (number (checks cs refusing passing) ≡ 12 → ⊥) → number (cond holds (refusing (c .1)) (checks cs refusing passing)) ≡ 12 → ⊥
+      by true later e = eqb-false (c .1) 12 (o .0) (sym (is (c .1)) ∙ e)
+      by false later e = later e
+
+-- ---- the calls
+
+module _ (b : Buffer) (well : wellFormed b ≡ true) where
+  pub start-never : (s : ℕ) → refusalIn (starting b s) ≡ 12 → ⊥
+  unfolding starting
+  start-never s = rw well (never refusalIn refuses (answers _) (λ r. refl) (λ e. omega arith) ((anyHeld (view b .held), 13) ∷ []) (refl, tt))
+
+  pub accept-never : (n : ℕ) (payload : List ℕ) → refusalIn (accepting b n payload .said) ≡ 12 → ⊥
+  unfolding accepting
+  accept-never n payload =
+      let stores : Acceptance = record { said = answers tt; buffer = stored b (slotAt b (n - b .state .«front_number»)) payload } in
+      rw well
+      (never (λ (o : Acceptance). refusalIn (o .said)) (λ r. record { said = refuses r; buffer = b }) stores (λ r. refl) (λ e. omega arith)
+      (acceptChecks (view b) n payload) (refl, (refl, (refl, (refl, (refl, tt))))))
+
+  pub peek-never : refusalIn (peeking b) ≡ 12 → ⊥
+  unfolding peeking
+  peek-never = rw well (never {A = Said Unit} refusalIn refuses (answers tt) (λ r. refl) (λ e. omega arith) ((not (available (view b)), 8) ∷ []) (refl, tt))
+
+  pub consume-ends : (len : ℕ) (out : List ℕ) → Ends (consuming b len out .said)
+  consume-ends len out =
+      elim (consume-ways b len out) [
+        | malformed m e ↦ absurd (true≢false (sym well ∙ m))
+        | short g s e ↦ rw e (ten refl)
+        | reads g s e ↦ rw e (given-ends (consumed (view b) len .empty) _)
+      ]
+
+  pub consume-never : (len : ℕ) (out : List ℕ) → refusalIn (consuming b len out .said) ≡ 12 → ⊥
+  consume-never len out = ends-never (consume-ends len out)
+
+  pub consume-bytes-ends : (limit : ℕ) (out list : List ℕ) → Ends (consumingBytes b limit out list .said)
+  consume-bytes-ends limit out list =
+      elim (consume-bytes-ways b limit out list) [
+        | malformed m e ↦ absurd (true≢false (sym well ∙ m))
+        | short g s e ↦ rw e (ten refl)
+        | empty g s e ↦ rw e (eight refl)
+        | reads g room cells any e ↦ rw e (values _ refl)
+      ]
+
+  pub consume-bytes-never : (limit : ℕ) (out list : List ℕ) → refusalIn (consumingBytes b limit out list .said) ≡ 12 → ⊥
+  consume-bytes-never limit out list = ends-never (consume-bytes-ends limit out list)
