@@ -1,3 +1,4 @@
 pub mod Packet
 pub mod Datagram
 pub mod Step
+pub mod Sizes

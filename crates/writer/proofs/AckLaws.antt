@@ -26,10 +26,11 @@ use Rattle.ring_buffer.specs.declared.RingBuffer.{RingBuffer}
 use Rattle.ring_buffer.proofs.Blanked.{length-blanked}
 use Rattle.ring_buffer.proofs.Laws.{taken, taken-are, length-contents, popped-keeps, popped-contents}
 use Rattle.writer.specs.Acks.{ackCount, acksTaken, ackHeader, ackBytes, anyTooLarge, ackChecks, packed, Outcome, leaves, consumesAcks}
+use Rattle.writer.specs.AckSteps.{written}
 use Rattle.writer.specs.declared.acks.AcksPacked.{AcksPacked}
 use Rattle.writer.proofs.AckCount.{count-queued}
 use Rattle.writer.proofs.AckChecks.{ring-well}
-use Rattle.writer.proofs.AckTurns.{length-acks, ack-small, small-first, written}
+use Rattle.writer.proofs.AckTurns.{length-acks, ack-small, small-first}
 
 -- ---- headers end to end, read again
 

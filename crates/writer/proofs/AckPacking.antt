@@ -14,12 +14,12 @@ use Rattle.ring_buffer.specs.declared.AckData.{AckData}
 use Rattle.ring_buffer.specs.declared.RingBuffer.{RingBuffer}
 use Rattle.ring_buffer.proofs.Blanked.{blanked-none}
 use Rattle.writer.specs.Acks.{ackCount, acksTaken, anyTooLarge, ackChecks, packed, Outcome, leaves, consumesAcks}
-use Rattle.writer.specs.AckSteps.{malformed, due, batch, saying, leaving, Packable}
+use Rattle.writer.specs.AckSteps.{malformed, due, batch, saying, leaving, Answers, Scanned, written, Packable, Drained}
 use Rattle.writer.specs.declared.acks.AcksPacked.{AcksPacked}
 use Rattle.writer.specs.declared.acks.AckBatch.{AckBatch}
 use Rattle.writer.proofs.AckCount.{count-queued}
 use Rattle.writer.proofs.AckChecks.{failed-is, ring-well}
-use Rattle.writer.proofs.AckTurns.{written, written-none}
+use Rattle.writer.proofs.AckTurns.{written-none}
 
 same-outcome : {s : Said AcksPacked} {g : RingBuffer} {ys : List AckData} {out : List ℕ} {x : Outcome} → s ≡ x .said → g ≡ x .ring → ys ≡ x .cells → out ≡ x .out → leaves s g ys out ≡ x
 same-outcome p q r t = rw (p, q, r, t) refl
@@ -34,11 +34,7 @@ module _ (g : RingBuffer) (ys : List AckData) (used src dst : ℕ) (out : List �
   abbrev acks : List AckData
   acks = acksTaken g ys used
 
-  -- what the scan promises
-  abbrev pub Scanned : Type 0
-  Scanned = wellFormed g c ≡ true → due g c used room ≤ g .len → over ≡ anyTooLarge (take (due g c used room) (contents g ys))
-
-  module _ (scan : Scanned) where
+  module _ (scan : Scanned g ys (due g c used room) over) where
     scan-is : malformed g c used room ≡ false → over ≡ anyTooLarge acks
     scan-is fine =
         let k-is : due g c used room ≡ ackCount g used = rw fine refl in

@@ -17,6 +17,7 @@ use Rattle.ring_buffer.specs.declared.AckData.{AckData}
 use Rattle.ring_buffer.specs.declared.RingBuffer.{RingBuffer}
 use Rattle.ring_buffer.proofs.Laws.{length-contents, record-in}
 use Rattle.writer.specs.Acks.{ackHeader, ackBytes, tooLarge, anyTooLarge}
+use Rattle.writer.specs.AckSteps.{written}
 
 -- ---- counts too large
 
@@ -70,10 +71,6 @@ module _ (src dst : ℕ) where
   unfolding ackBytes
   length-acks [] = refl
   length-acks (a ∷ l) = length-append (headerBytes (ackHeader src dst a)) (ackBytes src dst l) ∙ rw (length-header (ackHeader src dst a), length-acks l) (omega arith)
-
--- the output once i headers are written
-abbrev pub written : RingBuffer → List AckData → ℕ → ℕ → ℕ → List ℕ → ℕ → List ℕ
-written g ys used src dst out i = paste out used (ackBytes src dst (take i (contents g ys))) (20 * i)
 
 pub written-none : (g : RingBuffer) (ys : List AckData) (used src dst : ℕ) (out : List ℕ) → out ≡ written g ys used src dst out 0
 written-none g ys used src dst out = paste-zero out used (ackBytes src dst (take 0 (contents g ys)))

@@ -2,27 +2,29 @@
 -- Assumes nothing.
 use Prim.Native.Nat.{ℕ, zero, suc, _+_, _-_, _*_, _^_, _<_, _≤_, min}
 use mathlib.Core.Path.{_≡_, refl, sym, ap, _∙_}
-use mathlib.Core.Bool.{Bool, true, false, not, cond}
+use mathlib.Core.Bool.{Bool, true, false, cond, true≢false}
 use mathlib.Core.List.{List, [], _∷_, _++_, flatten}
+use mathlib.Core.Logic.{inl, inr}
 use native.Mathlib.Omega.{arith}
 use native.Mathlib.Nat.{add-zero, suc-mul}
 use lib.ListN.{length, take, drop, getD, length-take, length-drop, take-append-drop}
 use lib.Seq.{paste, take-all, take-at, length-take-le, drop-drop, drop-length}
-use lib.Dec.{ltb, leb, eqb}
-use borrow.Author.Tests.{not-false, eqb-true, ltb-true, ltb-false, leb-true, leb-false}
-use Rattle.refusal.specs.Said.{Said, answers, refuses}
-use Rattle.refusal.proofs.Checks.{Checked, passes, fails, checked}
+use lib.Dec.{ltb, leb}
+use borrow.Author.Tests.{not-false, eq-eqb, eqb-true, ltb-true, ltb-false, leb-true, leb-false}
+use Rattle.refusal.specs.Said.{Said, answers, refuses, checks}
+use Rattle.refusal.proofs.Checks.{Failed, Checked, passes, fails, checked}
 use Rattle.lists.specs.Numbers.{largest}
 use Rattle.packet.specs.Packet.{Packet, joined}
 use Rattle.packet.specs.Datagram.{readingLimit}
 use Rattle.packet.proofs.Trip.{Honest, Readable, last, before}
 use Rattle.writer.specs.declared.DataPacked.{DataPacked}
-use Rattle.writer.specs.Packing.{Queue, payloadSize, byteLimit, bytesTaken, packetsFor, cut, payloadsOf, dataPacket, numbered, packetsMade, removal, removed, shortened, dequeued, sum, packing}
+use Rattle.writer.specs.Packing.{Queue, payloadSize, byteLimit, bytesTaken, packetsFor, packedSize, cut, payloadsOf, dataPacket, numbered, packetsMade}
+use Rattle.writer.specs.Packing.{removal, shortened, dequeued, sum, taking, dataChecks, Outcome, packing}
 use Rattle.writer.proofs.Run.{packets-zero, packets-suc, length-run}
 
 -- ---- any list of bytes, cut into as many payloads as it fills
 
-length-cut : (size k : ℕ) (s : List ℕ) → length (cut size k s) ≡ k
+pub length-cut : (size k : ℕ) (s : List ℕ) → length (cut size k s) ≡ k
 unfolding cut
 length-cut size zero s = refl
 length-cut size (suc k) s = ap suc (length-cut size k (drop size s))
@@ -166,60 +168,61 @@ module _ (src dst : ℕ) (source : src < 2 ^ 32) (destination : dst < 2 ^ 32) wh
       by zero e h = absurd (omega arith)
       by (suc k) e h = rw e (readable k next (take (taken limit bytes) bytes) (rw length-taken e) (omega arith))
 
--- ---- a packing that was not refused
-
--- what it answers
-abbrev pub answer : ℕ → Queue → ℕ → DataPacked
-answer limit queue next = record {
-  bytes = taken limit (queue .bytes);
-  packets = packets limit (queue .bytes);
-  «next_packet_num» = next + packets limit (queue .bytes);
-  «entries_removed» = removed limit queue .0;
-  «bytes_cut» = removed limit queue .1;
-}
+-- ---- what packing says
 
 pub record Answered (limit : ℕ) (queue : Queue) (next src dst : ℕ) (out : List ℕ) (d : DataPacked) : Type 0 where
   pub add-up : sum (queue .lengths) ≡ length (queue .bytes)
   pub numbers : next + d .packets ≤ largest
   pub room : d .bytes + 20 * d .packets ≤ length out
-  pub said : d ≡ answer limit queue next
+  pub said : d ≡ taking limit queue next
   pub left : packing limit queue next src dst out .1 ≡ paste out 0 (joined (packetsMade limit src dst next (queue .bytes))) (d .bytes + 20 * d .packets)
+
+-- of a queue that adds up: all that it takes, or a refusal that is not 12
+pub data Says (limit : ℕ) (queue : Queue) (next : ℕ) : Said DataPacked → Type 0 where
+  takes : taking limit queue next .«next_packet_num» ≤ largest → Says limit queue next (answers (taking limit queue next))
+  stays : (n : ℕ) → (n ≡ 12 → ⊥) → Says limit queue next (refuses n)
+
+module _ (limit : ℕ) (queue : Queue) (next src dst : ℕ) (out : List ℕ) where
+  abbrev cs : List (Bool × ℕ)
+  cs = dataChecks limit queue next (length out)
+
+  abbrev refused : ℕ → Outcome
+  refused n = (refuses n, out)
+
+  abbrev packed : Outcome
+  packed = (answers (taking limit queue next), paste out 0 (joined (packetsMade limit src dst next (queue .bytes))) (packedSize (taking limit queue next .bytes)))
+
+  other : {n : ℕ} → sum (queue .lengths) ≡ length (queue .bytes) → Failed cs n → n ≡ 12 → ⊥
+  other e (inl f) z =
+      let wrong : false ≡ true = rw (eq-eqb (sum (queue .lengths)) (length (queue .bytes)) e) at (f .0) in
+      absurd (true≢false (sym wrong))
+  other e (inr f) z = elim (f .1) [ inl g ↦ omega (arith, g .1) | inr g ↦ elim (g .1) [ inl h ↦ omega (arith, h .1) | inr h ↦ absurd (h .1) ] ]
+
+  pub packing-says : sum (queue .lengths) ≡ length (queue .bytes) → Says limit queue next (packing limit queue next src dst out .0)
+  unfolding packing
+  packing-says e = by (checked refused packed cs)
+    where
+      by : Checked cs refused packed → Says limit queue next (checks cs refused packed .0)
+      by (passes t r) = rw r (takes (ltb-false _ _ (t .1 .0)))
+      by (fails n f r) = rw r (stays n (other e f))
 
 module _ (limit : ℕ) (queue : Queue) (next src dst : ℕ) (out : List ℕ) (d : DataPacked) where
   pub answered : packing limit queue next src dst out .0 ≡ answers d → Answered limit queue next src dst out d
   unfolding packing
-  answered e = by (checked refused (answers all, pasted) tests)
+  answered e = by (checked (refused limit queue next src dst out) (packed limit queue next src dst out) (cs limit queue next src dst out))
     where
-      q : ℕ
-      q = taken limit (queue .bytes)
-
-      p : ℕ
-      p = packets limit (queue .bytes)
-
-      all : DataPacked
-      all = answer limit queue next
-
-      pasted : List ℕ
-      pasted = paste out 0 (joined (packetsMade limit src dst next (queue .bytes))) (q + 20 * p)
-
-      tests : List (Bool × ℕ)
-      tests = (not (eqb (sum (queue .lengths)) (length (queue .bytes))), 12) ∷ (ltb largest (next + p), 9) ∷ (ltb (length out) (q + 20 * p), 10) ∷ []
-
-      refused : ℕ → Said DataPacked × List ℕ
-      refused n = (refuses n, out)
-
-      by : Checked tests refused (answers all, pasted) → Answered limit queue next src dst out d
+      by : Checked (cs limit queue next src dst out) (refused limit queue next src dst out) (packed limit queue next src dst out) → Answered limit queue next src dst out d
       by (passes t r) =
-          let same : d ≡ all = cc in
+          let same : d ≡ taking limit queue next = cc in
           rw same (record {
             add-up = eqb-true _ _ (not-false _ (t .0));
             numbers = ltb-false _ _ (t .1 .0);
             room = ltb-false _ _ (t .1 .1 .0);
             said = refl;
-            left = ap (λ (x : Said DataPacked × List ℕ). x .1) r;
+            left = ap (λ (x : Outcome). x .1) r;
           })
       by (fails n t r) =
-          let both : _≡_ {A = Said DataPacked} (refuses n) (answers d) = sym (ap (λ (x : Said DataPacked × List ℕ). x .0) r) ∙ e in
+          let refusal : _≡_ {A = Said DataPacked} (refuses n) (answers d) = sym (ap (λ (x : Outcome). x .0) r) ∙ e in
           let z : _≡_ {A = ℕ} 0 1 = cc in
           absurd (omega arith)
 
@@ -273,7 +276,7 @@ sum-left (suc q) (l ∷ ls) h = by (λ k. sum-left (suc q - l) ls k) (leb l (suc
 module _ (limit : ℕ) (queue : Queue) (next : ℕ) where
   -- the lengths left add up to the bytes left
   pub dequeued-adds-up : sum (queue .lengths) ≡ length (queue .bytes)
-      → sum (dequeued (answer limit queue next) queue .lengths) ≡ length (dequeued (answer limit queue next) queue .bytes)
+      → sum (dequeued (taking limit queue next) queue .lengths) ≡ length (dequeued (taking limit queue next) queue .bytes)
   unfolding sum shortened
   dequeued-adds-up h = by (ltb (length (queue .bytes)) limit) refl
     where

@@ -18,7 +18,7 @@ use Rattle.header.specs.declared.BluefinHeader.{BluefinHeader}
 use Rattle.header.proofs.Trip.{length-header}
 use Rattle.packet.specs.Packet.{packetBytes, joined}
 use Rattle.packet.proofs.Alone.{length-packet}
-use Rattle.writer.specs.Packing.{payloadSize, packetsFor, cut, dataPacket, numbered}
+use Rattle.writer.specs.Packing.{payloadSize, packetsFor, packedSize, cut, dataPacket, numbered, allPacked}
 
 -- One packet written: its header, then its payload right behind.
 module _ (src dst n : ℕ) (payload : List ℕ) {m : ℕ} {security : BluefinSecurityFields} {made header : BluefinHeader} (long : length payload ≡ m) where
@@ -76,18 +76,14 @@ length-run src dst n (suc k) s e =
     length-run src dst (suc n) k (drop payloadSize s) (rw length-drop (packets-suc (length s) k e)) ∙ rw length-drop in
     length-append (packetBytes (dataPacket src dst n (take payloadSize s))) (run src dst (suc n) k (drop payloadSize s)) ∙ rw (length-packet-next src dst n k s payloadSize, rest) (omega arith)
 
--- all of s as packets
-abbrev pub allOf : ℕ → ℕ → ℕ → List ℕ → List ℕ
-allOf src dst n s = run src dst n (packetsFor (length s)) s
-
 module _ (src dst n : ℕ) (s : List ℕ) where
-  length-all : length (allOf src dst n s) ≡ length s + 20 * packetsFor (length s)
+  length-all : length (allPacked src dst n s) ≡ packedSize (length s)
   length-all = length-run src dst n (packetsFor (length s)) s refl
 
-  all-next : 0 < length s → allOf src dst n s ≡ packetBytes (dataPacket src dst n (take payloadSize s)) ++ allOf src dst (n + 1) (drop payloadSize s)
+  all-next : 0 < length s → allPacked src dst n s ≡ packetBytes (dataPacket src dst n (take payloadSize s)) ++ allPacked src dst (n + 1) (drop payloadSize s)
   all-next some = rw (packets-next (length s) some, add-one, length-drop) (run-next src dst n (packetsFor (length s - payloadSize)) s)
 
-  all-none : length s ≤ 0 → allOf src dst n s ≡ []
+  all-none : length s ≤ 0 → allPacked src dst n s ≡ []
   unfolding joined numbered cut
   all-none h =
       let z : length s ≡ 0 = omega arith in
@@ -96,9 +92,9 @@ module _ (src dst n : ℕ) (s : List ℕ) where
 -- What the loop keeps: s is left to write, from `at` and number n on; once it stands written there, all of `all` stands in `out₀` from its start.
 pub record Writing (src dst next : ℕ) (all out₀ : List ℕ) (n at : ℕ) (s out : List ℕ) : Type 0 where
   pub same : length out ≡ length out₀
-  pub room : at + (length s + 20 * packetsFor (length s)) ≤ length out
+  pub room : at + packedSize (length s) ≤ length out
   pub numbers : n + packetsFor (length s) ≤ largest
-  pub goal : paste out at (allOf src dst n s) (length (allOf src dst n s)) ≡ paste out₀ 0 (allOf src dst next all) (length (allOf src dst next all))
+  pub goal : paste out at (allPacked src dst n s) (length (allPacked src dst n s)) ≡ paste out₀ 0 (allPacked src dst next all) (length (allPacked src dst next all))
 
 -- a packet with m bytes of those left
 pub record Fits (n at left room m : ℕ) : Type 0 where
@@ -109,9 +105,9 @@ pub record Fits (n at left room m : ℕ) : Type 0 where
   pub number : n < largest
 
 module _ {src dst next : ℕ} {all out₀ : List ℕ} {n at : ℕ} {s out : List ℕ} (w : Writing src dst next all out₀ n at s out) where
-  pub written-all : length s ≤ 0 → out ≡ paste out₀ 0 (allOf src dst next all) (length all + 20 * packetsFor (length all))
+  pub written-all : length s ≤ 0 → out ≡ paste out₀ 0 (allPacked src dst next all) (packedSize (length all))
   written-all h =
-      let goal : out ≡ paste out₀ 0 (allOf src dst next all) (length (allOf src dst next all)) =
+      let goal : out ≡ paste out₀ 0 (allPacked src dst next all) (length (allPacked src dst next all)) =
       paste-zero out at [] ∙ (rw (all-none src dst n s h) at (w .goal)) in
       rw length-all at goal
 
@@ -125,7 +121,7 @@ module _ {src dst next : ℕ} {all out₀ : List ℕ} {n at : ℕ} {s out : List
         → Writing src dst next all out₀ (n + 1) (at + 20 + m) (drop m s) e
     written-next {e} q =
         let packet = packetBytes (dataPacket src dst n (take payloadSize s)) in
-        let rest = allOf src dst (n + 1) (drop payloadSize s) in
+        let rest = allPacked src dst (n + 1) (drop payloadSize s) in
         let long : length packet ≡ 20 + m = length-packet-next src dst n 0 s payloadSize ∙ omega arith in
         let wrote : e ≡ paste out at packet (length packet) = q ∙ rw (take-up-to s m payloadSize small, long) in
         let less : packetsFor (length s) ≡ suc (packetsFor (length (drop m s))) = packets-next (length s) some ∙ rw (drop-up-to s m payloadSize small, length-drop) in

@@ -16,8 +16,10 @@ use lib.Seq.{length-take-le, take-all, take-length, take-take, take-add, take-ap
 use lib.Dec.{ltb, leb, lit<}
 use borrow.Author.Tests.{ltb-true, ltb-false, leb-true, leb-false, lt-ltb, le-ltb, le-leb, lt-leb}
 use Rattle.packet.specs.Packet.{Packet}
+use Rattle.packet.specs.Sizes.{datagramLimit}
 use Rattle.writer.specs.Packing.{payloadSize, byteLimit, bytesTaken, cut, dataPacket, numbered, removal, removed}
-use Rattle.writer.specs.RustPacking.{datagramSize, State, Consumed, isEmpty, returned, emit, drain, finish, outer, consume, consumeDataInto, queueOf, leftBy, answered}
+use Rattle.writer.specs.RustPacking.{State, Consumed, isEmpty, returned, emit, drain, finish, outer, consume, consumeDataInto, queueOf, leftBy, answered}
+use Rattle.writer.proofs.Made.{length-cut}
 
 -- ---- the queue left
 
@@ -145,11 +147,6 @@ chunks-bytes s zero b = omega (arith, mul-zero s)
 chunks-bytes s (suc j) [] = omega arith
 chunks-bytes s (suc j) (x ∷ b) =
     rw (length-append, length-take, chunks-bytes s j (drop s (x ∷ b))) (omega (arith, mul-suc s j, length-drop s (x ∷ b)))
-
-length-cut : (s k : ℕ) (b : List ℕ) → length (cut s k b) ≡ k
-unfolding cut
-length-cut s zero b = refl
-length-cut s (suc k) b = ap suc (length-cut s k (drop s b))
 
 -- document 01's `packetsFor`, over s
 abbrev filledBy : ℕ → ℕ → ℕ
@@ -419,8 +416,8 @@ limit : byteLimit ≡ payloadSize * 10
 unfolding payloadSize byteLimit
 limit = refl
 
-room : datagramSize ≡ (payloadSize + 20) * 10
-unfolding payloadSize datagramSize
+room : datagramLimit ≡ (payloadSize + 20) * 10
+unfolding payloadSize datagramLimit
 room = refl
 
 -- For every queue, the Rust's loops end, and their packets, numbers, bytes counted and queue left are document 01's

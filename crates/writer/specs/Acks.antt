@@ -10,16 +10,13 @@ use Rattle.refusal.specs.Said.{Said, answers, refuses, checks}
 use Rattle.header.specs.Header.{headerBytes, headerOf, withNumber}
 use Rattle.header.specs.declared.BluefinHeader.{BluefinHeader}
 use Rattle.header.specs.declared.PacketType.the-variants.{Ack}
+unfoldable pub use Rattle.packet.specs.Sizes.{datagramLimit}
 use Rattle.ring_buffer.specs.Ring.{wellFormed, contents, popped, blanked}
 use Rattle.ring_buffer.specs.declared.AckData.{AckData}
 use Rattle.ring_buffer.specs.declared.RingBuffer.{RingBuffer}
 use Rattle.writer.specs.declared.acks.AcksPacked.{AcksPacked}
 use Rattle.writer.specs.declared.acks.AcksAnswer.{AcksAnswer}
 use Rattle.writer.specs.declared.acks.AcksAnswer.the-variants as acksAnswer
-
--- the bytes of a datagram that acks may fill
-unfoldable pub datagramLimit : ℕ
-datagramLimit = 15200
 
 -- k: "the smaller of the queued records and (15,200 − used) / 20 rounded down (0 if used is above 15,200)"
 abbrev pub ackCount : RingBuffer → ℕ → ℕ

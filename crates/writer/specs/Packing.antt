@@ -1,6 +1,6 @@
 -- Packing queued data into a datagram: document 01, "From the queue to a datagram", its first paragraph. Reference: `consume_data_into`.
 use Prim.Native.Nat.{ℕ, zero, suc, _+_, _-_, _*_, _/_, min}
-use mathlib.Core.Bool.{false, not, cond}
+use mathlib.Core.Bool.{Bool, false, not, cond}
 use mathlib.Core.List.{List, [], _∷_}
 use lib.ListN.{length, take, drop}
 use lib.Seq.{paste}
@@ -11,6 +11,7 @@ use Rattle.lists.specs.Numbers.{largest}
 use Rattle.header.specs.Header.{headerOf, withNumber}
 use Rattle.header.specs.declared.PacketType.the-variants.{UnencryptedData}
 use Rattle.packet.specs.Packet.{Packet, joined}
+unfoldable pub use Rattle.packet.specs.Sizes.{payloadSize}
 use Rattle.writer.specs.declared.DataPacked.{DataPacked}
 use Rattle.writer.specs.declared.DataAnswer.{DataAnswer}
 use Rattle.writer.specs.declared.DataAnswer.the-variants as dataAnswer
@@ -20,9 +21,8 @@ pub record Queue : Type 0 where
   pub bytes : List ℕ
   pub lengths : List ℕ
 
--- "Every payload is 1,500 bytes"
-unfoldable pub payloadSize : ℕ
-payloadSize = 1500
+abbrev pub queued : List ℕ → List ℕ → Queue
+queued bytes lengths = record { bytes = bytes; lengths = lengths }
 
 -- "the smaller of T and 15,000 bytes are taken", "If T is below 15,000, all entries go": the limit in both places
 unfoldable pub byteLimit : ℕ
@@ -37,6 +37,10 @@ bytesTaken limit total = min total limit
 -- p: as many payloads as q bytes fill, "but the last holds what remains of q; none is empty"
 abbrev pub packetsFor : ℕ → ℕ
 packetsFor q = (q + (payloadSize - 1)) / payloadSize
+
+-- what q bytes come to with a header of 20 before each payload
+abbrev pub packedSize : ℕ → ℕ
+packedSize q = q + 20 * packetsFor q
 
 -- k payloads of a size, the last with what remains
 unfoldable pub cut : ℕ → ℕ → List ℕ → List (List ℕ)
@@ -57,6 +61,10 @@ dataPacket src dst n payload = record {
 unfoldable pub numbered : ℕ → ℕ → ℕ → List (List ℕ) → List Packet
 numbered src dst n [] = []
 numbered src dst n (payload ∷ ps) = dataPacket src dst n payload ∷ numbered src dst (suc n) ps
+
+-- all of s as packets, end to end
+abbrev pub allPacked : ℕ → ℕ → ℕ → List ℕ → List ℕ
+allPacked src dst n s = joined (numbered src dst n (cut payloadSize (packetsFor (length s)) s))
 
 abbrev pub packetsMade : ℕ → ℕ → ℕ → ℕ → List ℕ → List Packet
 packetsMade limit src dst next bytes = numbered src dst next (payloadsOf limit bytes)
@@ -92,23 +100,40 @@ abbrev pub dataSays : DataAnswer → Said DataPacked
 dataSays (dataAnswer.Packed d) = answers d
 dataSays (dataAnswer.Refused r) = refuses (numberOf r)
 
--- "Checks in order: 12, 9 (next number + p above 2^64 − 1), 10." Written "from the start of the lent output, whose other bytes stay".
-unfoldable pub packing : ℕ → Queue → ℕ → ℕ → ℕ → List ℕ → Said DataPacked × List ℕ
-packing limit queue next src dst out =
+-- what a packing that is not refused answers: "q, the packets p, the next number, the entries removed, and the bytes cut from the first entry left"
+abbrev pub taking : ℕ → Queue → ℕ → DataPacked
+taking limit queue next =
     let q = bytesTaken limit (length (queue .bytes)) in
-    let p = packetsFor q in
-    checks
-    ((not (eqb (sum (queue .lengths)) (length (queue .bytes))), 12)
-    ∷ (ltb largest (next + p), 9)
-    ∷ (ltb (length out) (q + 20 * p), 10)
-    ∷ [])
-    (λ n. (refuses n, out)) (
-      answers (record {
-        bytes = q;
-        packets = p;
-        «next_packet_num» = next + p;
-        «entries_removed» = removed limit queue .0;
-        «bytes_cut» = removed limit queue .1;
-      }),
-      paste out 0 (joined (packetsMade limit src dst next (queue .bytes))) (q + 20 * p),
-    )
+    record {
+      bytes = q;
+      packets = packetsFor q;
+      «next_packet_num» = next + packetsFor q;
+      «entries_removed» = removed limit queue .0;
+      «bytes_cut» = removed limit queue .1;
+    }
+
+-- "Checks in order: 12, 9 (next number + p above 2^64 − 1), 10", for so many bytes of output. 12 is "lengths not adding up to the bytes"; 10 is an output too short
+-- for the packets.
+abbrev pub dataChecks : ℕ → Queue → ℕ → ℕ → List (Bool × ℕ)
+dataChecks limit queue next room =
+    (not (eqb (sum (queue .lengths)) (length (queue .bytes))), 12)
+    ∷ (ltb largest (taking limit queue next .«next_packet_num»), 9)
+    ∷ (ltb room (packedSize (taking limit queue next .bytes)), 10)
+    ∷ []
+
+-- what is said, and the output that is left
+abbrev pub Outcome : Type 0
+Outcome = Said DataPacked × List ℕ
+
+abbrev pub leaves : DataAnswer → List ℕ → Outcome
+leaves r out = (dataSays r, out)
+
+-- Written "from the start of the lent output, whose other bytes stay".
+unfoldable pub packing : ℕ → Queue → ℕ → ℕ → ℕ → List ℕ → Outcome
+packing limit queue next src dst out =
+    checks (dataChecks limit queue next (length out)) (λ n. (refuses n, out))
+    (answers (taking limit queue next), paste out 0 (joined (packetsMade limit src dst next (queue .bytes))) (packedSize (taking limit queue next .bytes)))
+
+-- the call, with document 01's limit: every promise of it takes the limit from here
+abbrev pub consumesData : Queue → ℕ → ℕ → ℕ → List ℕ → Outcome
+consumesData = packing byteLimit

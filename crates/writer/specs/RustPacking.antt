@@ -9,11 +9,8 @@ use mathlib.Core.Option.{Option, none, some, Option·map}
 use lib.ListN.{length, take, drop}
 use lib.Dec.{ltb, leb}
 use Rattle.packet.specs.Packet.{Packet}
+use Rattle.packet.specs.Sizes.{datagramLimit}
 use Rattle.writer.specs.Packing.{Queue, payloadSize, bytesTaken, packetsFor, packetsMade, dataPacket, removed}
-
--- `MAX_BLUEFIN_BYTES_IN_UDP_DATAGRAM`, 15,200
-unfoldable pub datagramSize : ℕ
-datagramSize = 10 * (20 + payloadSize)
 
 -- the locals, and what `next_packet_num` and `ans` refer to; `ans` as the packets that `serialize_packet_direct` appended
 pub record State : Type 0 where
@@ -107,7 +104,7 @@ module _ (size src dst : ℕ) where
       )
 
 abbrev pub consumeDataInto : ℕ → ℕ → ℕ → List (List ℕ) → Option Consumed
-consumeDataInto src dst next queue = consume payloadSize src dst datagramSize next queue
+consumeDataInto src dst next queue = consume payloadSize src dst datagramLimit next queue
 
 -- ---- document 01's answer for the same entries
 

@@ -1,7 +1,8 @@
 // Packing queued acks into a datagram. Ports worker/writer.rs, `consume_acks_into`; document 01, "From the queue to a datagram", its second paragraph.
 // The acks lie in a lent run of records, used as the ring of crates/ring_buffer.
 // Every decision is made by value, in covered functions; the three that take the lent records only carry it out.
-// Proved: the call says, and leaves behind in ring, cells and output, what its definition in specs/Acks.antt gives. proofs/AckLaws.antt relates this to the queue's records in order.
+// Proved: the call says, and leaves behind in ring, cells and output, what its definition in specs/Acks.antt gives; each inner function, what specs/AckSteps.antt says.
+// proofs/AckLaws.antt relates this to the queue's records in order.
 use header::BluefinHeader;
 use header::BluefinSecurityFields;
 use header::PacketType;
@@ -9,15 +10,10 @@ use refusal::Refusal;
 use ring_buffer::AckData;
 use ring_buffer::RingBuffer;
 ghost use mathlib.Core.Path.{_≡_};
-ghost use mathlib.Core.Bool.{true, _||_};
-ghost use Prim.Native.Nat.{_+_, _*_, _≤_};
-ghost use lib.ListN.{length, take};
-ghost use lib.Seq.{paste};
-ghost use Rattle.header.specs.Header.{headerBytes};
-ghost use Rattle.ring_buffer.specs.Ring.{wellFormed, contents, blanked};
+ghost use mathlib.Core.Bool.{_||_};
 ghost use Rattle.ring_buffer.specs.Places.{slotOf};
-ghost use Rattle.writer.specs.Acks.{ackHeader, ackBytes, tooLarge, anyTooLarge, acksSays, ringAfter, leaves, consumesAcks};
-ghost use Rattle.writer.specs.AckSteps.{malformed, due, decided, verdictSays, batch as batchOf, saying, leaving, Packable};
+ghost use Rattle.writer.specs.Acks.{tooLarge, acksSays, ringAfter, leaves, consumesAcks};
+ghost use Rattle.writer.specs.AckSteps.{malformed, due, decided, verdictSays, batch as batchOf, Answers, Scanned, AckFits, ackPut, Packable, Drained};
 
 // How many acks were packed, and whether there is anything to send.
 pub struct AcksPacked {
@@ -121,7 +117,7 @@ fn acks_answer(
     room: usize,
     over: bool,
 ) -> AcksAnswer
-    ensures { λ r. ⌜ (acksSays r ≡ saying ring capacity used room over) × (ringAfter ring r ≡ leaving ring capacity used room over) ⌝ }
+    ensures { λ r. ⌜ Answers ring capacity used room over r ⌝ }
 {
     let len = ring.len;
     match decide(ring, capacity, used, room, over) {
@@ -145,7 +141,7 @@ fn over_with(over: bool, a: AckData) -> bool
 
 // Whether there is a count too large among the k acks in front.
 fn any_too_large(records: &[AckData], ring: RingBuffer, k: usize) -> bool
-    ensures { λ r. ⌜ (wellFormed ring (length (now (records .entry))) ≡ true → k ≤ ring .len → r ≡ anyTooLarge (take k (contents ring (now (records .entry))))) ⌝ }
+    ensures { λ r. ⌜ Scanned ring (now (records .entry)) k r ⌝ }
 {
     let capacity = records.len();
     let head = ring.head;
@@ -171,8 +167,8 @@ fn ack_slot(batch: AckBatch, capacity: usize, i: usize) -> usize
 
 // The header of the batch's i-th ack, a, in its place.
 fn put_ack(out: &mut [u8], batch: AckBatch, i: usize, a: AckData)
-    requires { ⌜ (batch .used + 20 * i + 20 ≤ length (now out)) × (a .«num_packets_consumed» ≤ 65535) ⌝ }
-    ensures { λ _. ⌜ now (out .exit) ≡ paste (now (out .entry)) (batch .used + 20 * i) (headerBytes (ackHeader (batch .«src_conn_id») (batch .«dst_conn_id») a)) 20 ⌝ }
+    requires { ⌜ AckFits batch i a (now out) ⌝ }
+    ensures { λ _. ⌜ now (out .exit) ≡ ackPut batch i a (now (out .entry)) ⌝ }
 {
     let count = a.num_packets_consumed;
     let base = a.base_packet_num;
@@ -195,8 +191,7 @@ fn put_ack(out: &mut [u8], batch: AckBatch, i: usize, a: AckData)
 // Pops the batch's acks and writes their headers.
 fn drain(records: &mut [AckData], batch: AckBatch, out: &mut [u8])
     requires { ⌜ Packable batch (now records) (now out) ⌝ }
-    ensures { λ _. ⌜ (now (records .exit) ≡ blanked (batch .ring .head) (batch .taken) (now (records .entry)))
-        × (now (out .exit) ≡ paste (now (out .entry)) (batch .used) (ackBytes (batch .«src_conn_id») (batch .«dst_conn_id») (take (batch .taken) (contents (batch .ring) (now (records .entry))))) (20 * batch .taken)) ⌝ }
+    ensures { λ _. ⌜ Drained batch (now (records .entry)) (now (out .entry)) (now (records .exit)) (now (out .exit)) ⌝ }
 {
     let capacity = records.len();
     let taken = batch.taken;

@@ -5,16 +5,13 @@ use header::BluefinSecurityFields;
 use header::PacketType;
 use refusal::Refusal;
 ghost use mathlib.Core.Path.{_≡_};
-ghost use mathlib.Core.List.{List};
-ghost use Prim.Native.Nat.{ℕ, _+_, _*_, _<_, _≤_, min};
+ghost use Prim.Native.Nat.{ℕ, _+_, _<_, _≤_, min};
 ghost use lib.ListN.{length, take, drop};
 ghost use lib.Seq.{paste};
 ghost use lib.Dec.{eqb};
-ghost use Rattle.refusal.specs.Said.{Said};
 ghost use Rattle.lists.specs.Numbers.{largest};
-ghost use Rattle.packet.specs.Packet.{packetBytes, joined};
-ghost use Rattle.writer.specs.declared.DataPacked.{DataPacked};
-ghost use Rattle.writer.specs.Packing.{payloadSize, byteLimit, packetsFor, cut, dataPacket, numbered, removal, removed, sum, dataSays, packing};
+ghost use Rattle.packet.specs.Packet.{packetBytes};
+ghost use Rattle.writer.specs.Packing.{queued, packetsFor, packedSize, dataPacket, allPacked, removal, removed, sum, leaves, packing, consumesData};
 ghost use Rattle.writer.specs.PayloadBytes.{payloadBytes};
 ghost use Rattle.writer.specs.Reserve.{reserving, reserveSays};
 
@@ -129,7 +126,7 @@ fn removed_with(lengths: &[u32], q: usize) -> Removal
 
 // What leaves the queue: below the limit every entry, empty ones too.
 fn removed_up_to(limit: usize, bytes: &[u8], lengths: &[u32]) -> Removal
-    ensures { λ r. ⌜ _≡_ {A = ℕ × ℕ} (r .entries, r .cut) (removed limit (record { bytes = now (bytes .entry); lengths = now (lengths .entry) })) ⌝ }
+    ensures { λ r. ⌜ _≡_ {A = ℕ × ℕ} (r .entries, r .cut) (removed limit (queued (now (bytes .entry)) (now (lengths .entry)))) ⌝ }
 {
     if bytes.len() < limit {
         return Removal {
@@ -176,8 +173,8 @@ fn write_packets(
     dst_conn_id: u32,
     out: &mut [u8],
 )
-    requires { ⌜ («next_packet_num» + packetsFor (length (now taken)) ≤ largest) × (length (now taken) + 20 * packetsFor (length (now taken)) ≤ length (now out)) ⌝ }
-    ensures { λ _. ⌜ now (out .exit) ≡ paste (now (out .entry)) 0 (joined (numbered «src_conn_id» «dst_conn_id» «next_packet_num» (cut payloadSize (packetsFor (length (now (taken .entry)))) (now (taken .entry))))) (length (now (taken .entry)) + 20 * packetsFor (length (now (taken .entry)))) ⌝ }
+    requires { ⌜ («next_packet_num» + packetsFor (length (now taken)) ≤ largest) × (packedSize (length (now taken)) ≤ length (now out)) ⌝ }
+    ensures { λ _. ⌜ now (out .exit) ≡ paste (now (out .entry)) 0 (allPacked «src_conn_id» «dst_conn_id» «next_packet_num» (now (taken .entry))) (packedSize (length (now (taken .entry)))) ⌝ }
 {
     let mut from = 0;
     let mut at = 0;
@@ -201,7 +198,7 @@ fn consume_data_up_to(
     dst_conn_id: u32,
     out: &mut [u8],
 ) -> DataAnswer
-    ensures { λ r. ⌜ _≡_ {A = Said DataPacked × List ℕ} (dataSays r, now (out .exit)) (packing limit (record { bytes = now (bytes .entry); lengths = now (lengths .entry) }) «next_packet_num» «src_conn_id» «dst_conn_id» (now (out .entry))) ⌝ }
+    ensures { λ r. ⌜ leaves r (now (out .exit)) ≡ packing limit (queued (now (bytes .entry)) (now (lengths .entry))) «next_packet_num» «src_conn_id» «dst_conn_id» (now (out .entry)) ⌝ }
 {
     if !add_up(lengths, bytes.len()) {
         return DataAnswer::Refused(Refusal::Malformed);
@@ -234,7 +231,7 @@ pub fn consume_data_into(
     dst_conn_id: u32,
     out: &mut [u8],
 ) -> DataAnswer
-    ensures { λ r. ⌜ _≡_ {A = Said DataPacked × List ℕ} (dataSays r, now (out .exit)) (packing byteLimit (record { bytes = now (bytes .entry); lengths = now (lengths .entry) }) «next_packet_num» «src_conn_id» «dst_conn_id» (now (out .entry))) ⌝ }
+    ensures { λ r. ⌜ leaves r (now (out .exit)) ≡ consumesData (queued (now (bytes .entry)) (now (lengths .entry))) «next_packet_num» «src_conn_id» «dst_conn_id» (now (out .entry)) ⌝ }
 {
     consume_data_up_to(
         BYTE_LIMIT,

@@ -49,11 +49,10 @@ use Rattle.ring_buffer.proofs.Record.{R, thin, ringv}
 use Rattle.ring_buffer.proofs.RingBuffer as G
 use Rattle.ring_buffer.proofs.RingBuffer.Laws as G′
 use Rattle.writer.specs.Acks.{anyTooLarge, acksSays, ringAfter, leaves, consumesAcks}
-use Rattle.writer.specs.AckSteps.{due, batch, saying, leaving, Packable}
+use Rattle.writer.specs.AckSteps.{due, batch, saying, leaving, Scanned, written, Packable}
 use Rattle.writer.specs.declared.acks.AckBatch.{AckBatch}
 use Rattle.writer.specs.declared.acks.AcksAnswer.{AcksAnswer}
-use Rattle.writer.proofs.AckTurns.{written}
-use Rattle.writer.proofs.AckPacking.{Scanned, packable, outcome-is}
+use Rattle.writer.proofs.AckPacking.{packable, outcome-is}
 use Rattle.writer.proofs.acks.AckBatch as P
 use Rattle.writer.proofs.acks.AckBatch.Laws as P′
 use Rattle.writer.proofs.acks.AcksAnswer as X
@@ -247,7 +246,7 @@ module _ {M : Type 1} (𝓤 : URA M) (H : Heap 𝓤) (A : Atoms 𝓤) (W : Given
       En = (X′.mir, l₀) ∷ (G′.mir, l₁) ∷ (slice₁, l₂) ∷ (word, l₃) ∷ (half, l₄) ∷ (half, l₅) ∷ (slice₂, l₆) ∷ (word, l₇) ∷ (word, l₈) ∷ (word, l₉) ∷ (tyBool, l₁₀) ∷ (P′.mir, l₁₁) ∷ (thinS, l₁₂) ∷ (sliceTy thinS, l₁₃) ∷ (tyUnit, l₁₄) ∷ (thin, l₁₅) ∷ (sliceTy thin, l₁₆) ∷ (thin₂, l₁₇) ∷ (sliceTy thin₂, l₁₈) ∷ []
 
       -- from the batch on
-      second : (over : Bool) → Scanned g ys used src dst os over → Sq W (‵ (Own₁ γ₁ ys) ∷ ‵ (flft κ₁ q₁) ∷ ‵ (Own₂ γ₂ os) ∷ ‵ (flft κ₂ q₂)
+      second : (over : Bool) → Scanned g ys (due g n used m) over → Sq W (‵ (Own₁ γ₁ ys) ∷ ‵ (flft κ₁ q₁) ∷ ‵ (Own₂ γ₂ os) ∷ ‵ (flft κ₂ q₂)
           ∷ ‵ (froom (sliceTy thin₂) l₁₈ 0) ∷ ‵ (fdies (sliceTy thin₂) l₁₈) ∷ ‵ (froom thin₂ l₁₇ 0) ∷ ‵ (fdies thin₂ l₁₇) ∷ ‵ (froom (sliceTy thin) l₁₆ 0) ∷ ‵ (fdies (sliceTy thin) l₁₆) ∷ ‵ (froom thin l₁₅ 0) ∷ ‵ (fdies thin l₁₅)
           ∷ ‵ (froom tyUnit l₁₄ 0) ∷ ‵ (fdies tyUnit l₁₄) ∷ ‵ (froom (sliceTy thinS) l₁₃ 0) ∷ ‵ (fdies (sliceTy thinS) l₁₃) ∷ ‵ (froom thinS l₁₂ 0) ∷ ‵ (fdies thinS l₁₂) ∷ ‵ (froom P′.mir l₁₁ 0) ∷ ‵ (fdies P′.mir l₁₁)
           ∷ ‵ (fat fullShare tyBool l₁₀ 0 (vbool over)) ∷ ‵ (fdies tyBool l₁₀) ∷ ‵ (froom word l₉ 0) ∷ ‵ (fdies word l₉) ∷ ‵ (fat fullShare word l₈ 0 (vint w64 m)) ∷ ‵ (fdies word l₈) ∷ ‵ (fat fullShare word l₇ 0 (vint w64 n)) ∷ ‵ (fdies word l₇)

@@ -64,9 +64,9 @@ use Rattle.ring_buffer.proofs.swap_record.Symbol as swap-def
 use Rattle.ring_buffer.proofs.swap_record.Symbol.{name as #swap}
 use Rattle.ring_buffer.proofs.swap_record.Met as swap-thm
 use Rattle.writer.specs.Acks.{ackHeader}
-use Rattle.writer.specs.AckSteps.{Packable}
+use Rattle.writer.specs.AckSteps.{written, Packable}
 use Rattle.writer.specs.declared.acks.AckBatch.{AckBatch}
-use Rattle.writer.proofs.AckTurns.{written, written-none, written-next, ack-small}
+use Rattle.writer.proofs.AckTurns.{written-none, written-next, ack-small}
 use Rattle.writer.proofs.acks.AckBatch as P
 use Rattle.writer.proofs.acks.AckBatch.Laws as P′
 use Rattle.writer.proofs.acks.ack_slot as slot
