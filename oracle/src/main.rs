@@ -1,4 +1,4 @@
-//! Asks the published Rust, and keeps its answers as stdin and stdout of the program that replays them, crates/replay_NAME.
+//! Asks the published Rust, and keeps its answers as stdin and stdout of the program that replays them.
 //! `cargo run` writes them; `cargo run -- --check` says whether they are what would be written.
 
 use oracle::components;
@@ -9,13 +9,12 @@ use std::{env, fs, process};
 /// Writes or checks the record of one component; answers whether it is as it should be.
 fn keep<C: Component>(check: bool) -> bool {
     let told = record::<C>();
-    let program = format!("crates/replay_{}", C::NAME);
+    let program = format!("{}{}", C::FOLDER, C::NAME);
     let folder = Path::new(env!("CARGO_MANIFEST_DIR"))
         .join("..")
         .join(&program);
     println!(
-        "{}: {} commands, {} left out, {} bytes",
-        C::NAME,
+        "{program}: {} commands, {} left out, {} bytes",
         told.kept,
         told.left_out,
         told.stdin().len() + told.stdout().len()
@@ -27,7 +26,7 @@ fn keep<C: Component>(check: bool) -> bool {
             fs::create_dir_all(&folder).expect("a folder for the record");
             fs::write(&path, bytes).expect("the record is written");
         } else if fs::read(&path).ok() != Some(bytes) {
-            println!("{}: {program}/{name} differs", C::NAME);
+            println!("{program}/{name} differs");
             return false;
         }
     }
@@ -54,6 +53,7 @@ fn main() {
         keep::<components::close_handler::Close>(check),
         keep::<components::net::Net>(check),
         keep::<components::ring_buffer::Ring>(check),
+        keep::<components::ring_tests::RingTests>(check),
         keep::<components::writer::Writer>(check),
         keep::<components::acks::Acks>(check),
     ];

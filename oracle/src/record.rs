@@ -48,8 +48,10 @@ impl Question {
 
 /// What is asked of one component, and how the Rust answers it.
 pub trait Component: Default {
-    /// The program that replays it is crates/replay_NAME.
     const NAME: &'static str;
+
+    /// The program that replays it, and its record, are in this folder, whose name ends in NAME: in Rattle, or in C over the archive.
+    const FOLDER: &'static str = "crates/replay_";
 
     /// How many random questions follow the cases.
     const RANDOM: usize;

@@ -109,6 +109,7 @@ pub struct Acks;
 
 impl Component for Acks {
     const NAME: &'static str = "acks";
+    const FOLDER: &'static str = "hosts/replay/";
     const RANDOM: usize = 500;
 
     fn cases() -> Vec<Question> {

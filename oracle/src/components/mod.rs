@@ -7,5 +7,6 @@ pub mod net;
 pub mod ordered_bytes;
 pub mod packet;
 pub mod ring_buffer;
+pub mod ring_tests;
 pub mod window;
 pub mod writer;

@@ -49,6 +49,7 @@ fn found(record: Option<Record>) -> Vec<u64> {
 
 impl Component for Ring {
     const NAME: &'static str = "ring_buffer";
+    const FOLDER: &'static str = "hosts/replay/";
     const RANDOM: usize = 1500;
 
     /// Every list of four changes, at each capacity from 0 to 3, and each test after it.
