@@ -22,9 +22,9 @@ use Rattle.link.proofs.All.{all-in}
 use Rattle.link.proofs.Runs.{run-last, fairly-before, fair-next}
 use Rattle.link.proofs.Wrote.{wrote}
 use Rattle.link.proofs.Covered.{longest, longest-covered, longest-most, reach, reach-is, reach-most, at-take, flatten-start, start-through}
-use Rattle.link.proofs.Sender.{made-at, made-earlier-at, made-is, sender-begins, SenderDoes, sender-does}
-use Rattle.link.proofs.Receiver.{Numbered, receiver-begins, receiver-extends, ReceiverDoes, receiver-does, emptied, reads-reach}
-use Rattle.link.proofs.Window.{window-begins, window-extends, WindowDoes, window-does, expects-within, consume-first}
+use Rattle.link.proofs.Sender.{made-at, made-earlier-at, made-is, sender-begins, sender-does}
+use Rattle.link.proofs.Receiver.{Numbered, receiver-begins, receiver-extends, receiver-does, emptied, reads-reach}
+use Rattle.link.proofs.Window.{window-begins, window-extends, window-does, expects-within, consume-first}
 
 -- ---- the invariant holds of every link reached
 

@@ -4,7 +4,7 @@
 use Prim.Native.Nat.{ℕ, zero, suc, _+_, _-_, _≤_, _<_, zero-le, suc-le-suc}
 use mathlib.Core.Path.{_≡_, refl, sym, ap, _∙_}
 use mathlib.Core.Logic.{_⊎_, inl, inr}
-use mathlib.Core.Bool.{Bool, true, false, not, cond, true≢false, or-true}
+use mathlib.Core.Bool.{true, or-true}
 use mathlib.Core.Option.{Option, none, some}
 use mathlib.Core.List.{List, [], _∷_, _++_, append-assoc, append-nil, flatten}
 use native.Mathlib.Omega.{arith}
@@ -13,27 +13,29 @@ use native.Mathlib.Nat.{add-zero, add-assoc, le-refl}
 use lib.ListN.{length, take, drop, set, getD, replicate, getElem?, length-append, length-drop}
 use lib.Seq.{take-add, take-append-le, getD-set-same, getD-set-other}
 use borrow.Author.Tests.{eq-eqb, ne-eqb}
-use Rattle.refusal.specs.Said.{Said, answers, refuses, refusalIn}
+use Rattle.refusal.specs.Said.{answers, refuses, refusalIn}
 use Rattle.lists.specs.Numbers.{largest}
 use Rattle.lists.proofs.Pad.{getD-all, getD-moved}
 use Rattle.lists.proofs.Flatten.{flatten-append}
 use Rattle.lists.proofs.Lookup.{lookup-append, lookup-drop}
 use Rattle.packet.specs.Packet.{Packet}
 use Rattle.ordered_bytes.specs.declared.OrderedBytes.{OrderedBytes}
-use Rattle.ordered_bytes.specs.Receiver.{Receiver, isHeld, placeAt, accepted, payloads, available, consumed}
+use Rattle.ordered_bytes.specs.Receiver.{Receiver, isHeld, placeAt, accepted, payloads, consumed}
 use Rattle.ordered_bytes.specs.Buffer.{Buffer, view, wellFormed}
-use Rattle.ordered_bytes.specs.Calls.{creating, accepting, peeking, consuming, consumingBytes}
+use Rattle.ordered_bytes.specs.Calls.{creating, accepting, consuming, consumingBytes}
 use Rattle.lists.proofs.Order.{either}
 use Rattle.ordered_bytes.proofs.View as buffer
 use Rattle.ordered_bytes.proofs.View.{view-fresh, length-held}
 use Rattle.ordered_bytes.proofs.Walk.{walk-full, consumed-part, consumed-whole}
-use Rattle.ordered_bytes.proofs.Outcome.{Creating, makes, create-ways, Acceptable, Accepting, malformed, refused, stores, accept-ways, Consuming, short, reads as takes-bytes, consume-ways, ConsumingBytes, empty, consume-bytes-ways}
+use Rattle.ordered_bytes.proofs.Outcome.{Creating, makes, create-ways, Acceptable, Accepting, malformed, refused, stores, accept-ways}
+use Rattle.ordered_bytes.proofs.Outcome.{Consuming, short, reads as takes-bytes, consume-ways}
+use Rattle.ordered_bytes.proofs.Refused.{accept-never, peek-never, Ends, values, eight, ten, ends-eight, consume-ends, consume-never, consume-bytes-ends, consume-bytes-never}
 use Rattle.ordered_bytes.proofs.Kept.{create-kept, accept-kept, consume-kept, consume-bytes-kept}
-use Rattle.ordered_bytes.proofs.Reading.{accept-stores, Takes, Gives, Dry, Empties, consume-gives, consume-empty, consume-dry, consume-refused, consume-bytes-gives, consume-bytes-refused, consume-bytes-dry, weight, consume-lowers, consume-bytes-lowers}
+use Rattle.ordered_bytes.proofs.Reading.{accept-stores, Takes, Gives, Dry, Empties, consume-gives, consume-empty, consume-dry, consume-refused}
+use Rattle.ordered_bytes.proofs.Reading.{consume-bytes-gives, consume-bytes-refused, consume-bytes-dry, weight, consume-lowers, consume-bytes-lowers}
 use Rattle.window.specs.Window.{member}
-use Rattle.receive.proofs.Twelve.{accept-never}
 use Rattle.link.specs.Demand3.{ReceiverSide, ReceiverCall, Parser, from-bytes, from-bytes-into, parsing, arrive, read, read-pieces, peek, Ack, Link, Memory, Call, on-receiver, Called, fresh}
-use Rattle.link.specs.Demand3.{withBuffer, withAccepted, withDelivered, withAcks, withCounted, acceptedOne, acceptedAll, acceptRefusals, ackOf, gave, readBy, callReceiver}
+use Rattle.link.specs.Demand3.{withBuffer, withAccepted, withDelivered, withAcks, withCounted, acceptedOne, acceptedAll, acceptRefusals, ackOf, gave, callReceiver}
 use Rattle.link.specs.Demand3.{indexedOn, refusals, step, run, In, All, MadeEarlier, FairReceiver, Reads, reads, reads-pieces, Stops}
 use Rattle.link.proofs.All.{only, all-map, all-drop, all-append, all-among}
 use Rattle.link.proofs.Parsing.{parse-well}
@@ -71,46 +73,6 @@ front-held (suc c) [] i e less = absurd (omega arith)
 front-held (suc c) (none ∷ h) i e less = absurd (omega arith)
 front-held (suc c) (some p ∷ h) zero e less = refl
 front-held (suc c) (some p ∷ h) (suc i) e less = front-held c h i (omega arith) (omega arith)
-
--- ---- the ends of a read
-
--- a read of a well-formed buffer answers, or is refused with 8 or with 10
-data Ends {A : Type 0} (said : Said A) : Type 0 where
-  values : (v : A) → said ≡ answers v → Ends said
-  eight : said ≡ refuses 8 → Ends said
-  ten : said ≡ refuses 10 → Ends said
-
-ends-well : {A : Type 0} {said : Said A} → Ends said → refusalIn said ≡ 12 → ⊥
-ends-well (values v e) h = let z : _≡_ {A = ℕ} 0 12 = rw e at h in omega arith
-ends-well (eight e) h = let z : _≡_ {A = ℕ} 8 12 = rw e at h in omega arith
-ends-well (ten e) h = let z : _≡_ {A = ℕ} 10 12 = rw e at h in omega arith
-
-ends-eight : {A : Type 0} {said : Said A} → Ends said → refusalIn said ≡ 8 → said ≡ refuses 8
-ends-eight (values v e) h = absurd (let z : _≡_ {A = ℕ} 0 8 = rw e at h in omega arith)
-ends-eight (eight e) h = e
-ends-eight (ten e) h = absurd (let z : _≡_ {A = ℕ} 10 8 = rw e at h in omega arith)
-
-module _ (b : Buffer) (well : wellFormed b ≡ true) where
-  read-ends : (len : ℕ) (out : List ℕ) → Ends (consuming b len out .said)
-  read-ends len out = by (consume-ways b len out)
-    where
-      of : (none : Bool) (v : ℕ × ℕ × ℕ) → Ends (cond none (refuses 8) (answers v))
-      of true v = eight refl
-      of false v = values v refl
-
-      by : Consuming b len out → Ends (consuming b len out .said)
-      by (malformed m e) = absurd (true≢false (sym well ∙ m))
-      by (short g s e) = rw e (ten refl)
-      by (takes-bytes g s e) = rw e (of (consumed (view b) len .empty) _)
-
-  read-pieces-ends : (limit : ℕ) (out list : List ℕ) → Ends (consumingBytes b limit out list .said)
-  read-pieces-ends limit out list = by (consume-bytes-ways b limit out list)
-    where
-      by : ConsumingBytes b limit out list → Ends (consumingBytes b limit out list .said)
-      by (malformed m e) = absurd (true≢false (sym well ∙ m))
-      by (short g s e) = rw e (ten refl)
-      by (empty g s e) = rw e (eight refl)
-      by (takes-bytes g room cells any e) = rw e (values _ refl)
 
 -- ---- a fresh link, and more payloads made
 
@@ -232,16 +194,8 @@ module _ {s : ℕ} {made : List (List ℕ)} {k : ℕ} where
   accept-all-well : (packets : List Packet) {d : ReceiverSide} → All (Numbered s made) packets → ReceiverKeeps s made k d → In 12 (acceptRefusals packets d) → ⊥
   unfolding All In acceptRefusals
   accept-all-well [] all keeps never = never
-  accept-all-well (p ∷ ps) {d} all keeps (inl e) = accept-never (d .buffer) (p .header .«packet_number») (p .payload) (keeps .good) (sym e)
+  accept-all-well (p ∷ ps) {d} all keeps (inl e) = accept-never (d .buffer) (keeps .good) (p .header .«packet_number») (p .payload) (sym e)
   accept-all-well (p ∷ ps) all keeps (inr later) = accept-all-well ps (all .1) (accept-keeps p (all .0) keeps) later
-
-  peek-well : {d : ReceiverSide} → ReceiverKeeps s made k d → refusalIn (peeking (d .buffer)) ≡ 12 → ⊥
-  unfolding peeking
-  peek-well {d} keeps = rw (keeps .good) (by (available (view (d .buffer))))
-    where
-      by : (yes : Bool) → refusalIn {A = Unit} (cond (not yes) (refuses 8) (answers tt)) ≡ 12 → ⊥
-      by true e = omega arith
-      by false e = omega arith
 
 -- ---- reading
 
@@ -346,7 +300,7 @@ module _ {s : ℕ} {made : List (List ℕ)} {k : ℕ} {d : ReceiverSide} (keeps 
   stay = record { gone = k; up = le-refl k; keeps = keeps }
 
   read-keeps : All (λ p. 0 < length p) made → (len : ℕ) (out : List ℕ) → Later s made k (callReceiver d (read len out) .left)
-  read-keeps filled len out = by (read-ends (d .buffer) (keeps .good) len out)
+  read-keeps filled len out = by (consume-ends (d .buffer) (keeps .good) len out)
     where
       well : wellFormed (consuming (d .buffer) len out .buffer) ≡ true
       well = consume-kept (d .buffer) len out (keeps .good)
@@ -357,7 +311,7 @@ module _ {s : ℕ} {made : List (List ℕ)} {k : ℕ} {d : ReceiverSide} (keeps 
       by (ten e) = rw (e, consume-refused (d .buffer) len out e (λ q. omega arith) .0) stay
 
   read-pieces-keeps : (limit : ℕ) (out list : List ℕ) → Later s made k (callReceiver d (read-pieces limit out list) .left)
-  read-pieces-keeps limit out list = by (read-pieces-ends (d .buffer) (keeps .good) limit out list)
+  read-pieces-keeps limit out list = by (consume-bytes-ends (d .buffer) (keeps .good) limit out list)
     where
       by : Ends (consumingBytes (d .buffer) limit out list .said) → Later s made k (callReceiver d (read-pieces limit out list) .left)
       by (values v e) = rw e (gives-keeps (consume-bytes-gives (d .buffer) limit out list e) (consume-bytes-kept (d .buffer) limit out list (keeps .good)))
@@ -387,21 +341,20 @@ module _ {s : ℕ} {made : List (List ℕ)} {k : ℕ} (l : Link) (keeps : Receiv
       never (inl e) arrived = never-parsed parser datagram index (sym e)
       never (inr h) arrived = accept-all-well packets arrived keeps h
   receiver-does (read len out) filled numbered fair =
-      record { later = read-keeps keeps filled len out; never12 = λ h. ends-well (read-ends (l .receiver .buffer) (keeps .good) len out) (sym (only h)) }
+      record { later = read-keeps keeps filled len out; never12 = λ h. consume-never (l .receiver .buffer) (keeps .good) len out (sym (only h)) }
   receiver-does (read-pieces limit out list) filled numbered fair =
-      let ends = read-pieces-ends (l .receiver .buffer) (keeps .good) limit out list in
-      record { later = read-pieces-keeps keeps limit out list; never12 = λ h. ends-well ends (sym (only h)) }
-  receiver-does peek filled numbered fair = record { later = stay keeps; never12 = λ h. peek-well keeps (sym (only h)) }
+      record { later = read-pieces-keeps keeps limit out list; never12 = λ h. consume-bytes-never (l .receiver .buffer) (keeps .good) limit out list (sym (only h)) }
+  receiver-does peek filled numbered fair = record { later = stay keeps; never12 = λ h. peek-never (l .receiver .buffer) (keeps .good) (sym (only h)) }
 
 -- ---- reading to empty
 
 -- "To empty": 8, asked for a byte or a piece at least, leaves nothing to give
 pub emptied : (l : Link) (c : Call) → wellFormed (l .receiver .buffer) ≡ true → Reads c → In 8 (refusals l c) → Dry (step l c .receiver .buffer)
 emptied l c well (reads len out asked) h =
-    let said = ends-eight (read-ends (l .receiver .buffer) well len out) (sym (only h)) in
+    let said = ends-eight (consume-ends (l .receiver .buffer) well len out) (sym (only h)) in
     rw said (consume-dry (l .receiver .buffer) len out said asked)
 emptied l c well (reads-pieces limit out list asked) h =
-    let said = ends-eight (read-pieces-ends (l .receiver .buffer) well limit out list) (sym (only h)) in
+    let said = ends-eight (consume-bytes-ends (l .receiver .buffer) well limit out list) (sym (only h)) in
     rw said (consume-bytes-dry (l .receiver .buffer) limit out list said asked)
 
 -- ---- reads come to an 8, unless refused with 10
@@ -413,13 +366,13 @@ data Settles (l : Link) (c : Call) : Type 0 where
 
 settles : (l : Link) (c : Call) → wellFormed (l .receiver .buffer) ≡ true → Reads c → Settles l c
 unfolding In
-settles l c well (reads len out asked) = by (read-ends (l .receiver .buffer) well len out)
+settles l c well (reads len out asked) = by (consume-ends (l .receiver .buffer) well len out)
   where
     by : Ends (consuming (l .receiver .buffer) len out .said) → Settles l (on-receiver (read len out))
     by (values v e) = lowers (rw e (consume-kept (l .receiver .buffer) len out well)) (rw e (consume-lowers (l .receiver .buffer) len out e (omega (arith, asked))))
     by (eight e) = stops (inl (rw e (inl refl)))
     by (ten e) = stops (inr (rw e (inl refl)))
-settles l c well (reads-pieces limit out list asked) = by (read-pieces-ends (l .receiver .buffer) well limit out list)
+settles l c well (reads-pieces limit out list asked) = by (consume-bytes-ends (l .receiver .buffer) well limit out list)
   where
     by : Ends (consumingBytes (l .receiver .buffer) limit out list .said) → Settles l (on-receiver (read-pieces limit out list))
     by (values v e) = lowers (rw e (consume-bytes-kept (l .receiver .buffer) limit out list well)) (rw e (consume-bytes-lowers (l .receiver .buffer) limit out list e))

@@ -1,7 +1,7 @@
 -- The sender's side of demand 3: which number carries which payload, and that each of the sender's calls keeps `SenderKeeps` and is not refused with 12.
 -- Document 01, "From the queue to a datagram", "Closing" and "Premises of demand 3".
 -- Assumes nothing.
-use Prim.Native.Nat.{ℕ, zero, suc, _+_, _-_, _*_, _≤_, _<_}
+use Prim.Native.Nat.{ℕ, zero, suc, _+_, _-_, _≤_, _<_}
 use mathlib.Core.Path.{_≡_, refl, sym, ap, _∙_}
 use mathlib.Core.Logic.{inl, inr}
 use mathlib.Core.Bool.{Bool, true, false, true≢false}
@@ -10,18 +10,17 @@ use mathlib.Core.List.{List, [], _∷_, _++_, map, map-append, append-assoc, app
 use native.Mathlib.Nat.{add-zero, add-suc, suc-add}
 use native.Mathlib.Omega.{arith}
 use lib.ListN.{length, getElem?, length-append, take-append-drop}
-use lib.Dec.{ltb, leb}
-use borrow.Author.Tests.{ltb-false, leb-false, eq-eqb}
+use lib.Dec.{leb}
+use borrow.Author.Tests.{leb-false}
 use Rattle.refusal.specs.Said.{Said, answers, refuses, refusalIn, checks}
 use Rattle.lists.specs.Numbers.{largest}
 use Rattle.lists.proofs.Flatten.{flatten-append}
 use Rattle.packet.specs.Packet.{Packet}
-use Rattle.writer.specs.Packing.{packing, payloadSize, bytesTaken, packetsFor, payloadsOf, numbered, removed, sum}
-use Rattle.writer.specs.Reserve.{reserving}
+use Rattle.writer.specs.Packing.{payloadSize, payloadsOf, numbered, sum}
 use Rattle.writer.specs.declared.DataPacked.{DataPacked}
-use Rattle.writer.proofs.Made.{payloads-joined, count-payloads, payload-some, payload-small, dequeued-adds-up}
+use Rattle.writer.proofs.Made.{payloads-joined, count-payloads, payload-some, payload-small, dequeued-adds-up, Says, takes, stays, packing-says}
 use Rattle.ordered_bytes.specs.declared.OrderedBytes.{OrderedBytes}
-use Rattle.link.specs.Demand3.{SenderSide, SenderCall, enqueue, pack, reserve, Link, Memory, fresh, Called, enqueued, limitOf, packingOf, packedBy, reservedBy, callSender}
+use Rattle.link.specs.Demand3.{SenderSide, SenderCall, enqueue, pack, reserve, Link, Memory, fresh, Called, enqueued, limitOf, packedBy, reservedBy, callSender}
 use Rattle.link.specs.Demand3.{In, All, MadeEarlier, FairSender, Made}
 use Rattle.link.proofs.All.{only, all-append, all-getD}
 use Rattle.link.proofs.Invariant.{key, numberedFrom, SenderKeeps}
@@ -123,35 +122,6 @@ sender-begins s w o m h = record {
   fits = h;
 }
 
--- what a packing that is not refused answers
-abbrev taking : SenderSide → DataPacked
-taking d =
-    let q = bytesTaken (limitOf d) (length (d .queue .bytes)) in
-    record {
-      bytes = q;
-      packets = packetsFor q;
-      «next_packet_num» = d .next + packetsFor q;
-      «entries_removed» = removed (limitOf d) (d .queue) .0;
-      «bytes_cut» = removed (limitOf d) (d .queue) .1;
-    }
-
--- what packing says of a queue that adds up: all that it takes, or a refusal that is not 12
-data Says (d : SenderSide) : Said DataPacked → Type 0 where
-  takes : taking d .«next_packet_num» ≤ largest → Says d (answers (taking d))
-  stays : (n : ℕ) → (n ≡ 12 → ⊥) → Says d (refuses n)
-
-packing-says : (src dst : ℕ) (out : List ℕ) (d : SenderSide) → sum (d .queue .lengths) ≡ length (d .queue .bytes) → Says d (packingOf d src dst out .0)
-unfolding packing
-packing-says src dst out d e =
-    let q = bytesTaken (limitOf d) (length (d .queue .bytes)) in
-    rw (eq-eqb (sum (d .queue .lengths)) (length (d .queue .bytes)) e) (by (ltb largest (taking d .«next_packet_num»)) (ltb (length out) (q + 20 * packetsFor q)) _ refl)
-  where
-    by : (exhausted short : Bool) (written : List ℕ) → ltb largest (taking d .«next_packet_num») ≡ exhausted
-        → Says d (checks {A = Said DataPacked × List ℕ} ((false, 12) ∷ (exhausted, 9) ∷ (short, 10) ∷ []) (λ n. (refuses n, out)) (answers (taking d), written) .0)
-    by true short written t = stays 9 (λ z. omega arith)
-    by false true written t = stays 10 (λ z. omega arith)
-    by false false written t = takes (ltb-false largest (taking d .«next_packet_num») t)
-
 -- what is made next has the numbers after the payloads made before: once a FIN's number was reserved nothing is made, which is numbered alike from any number
 numbered-next : (closing : Bool) (next n : ℕ) (more : List (List ℕ)) → (closing ≡ false → next ≡ n) → (closing ≡ true → length more ≡ 0)
     → numberedFrom next more ≡ numberedFrom n more
@@ -186,7 +156,7 @@ module _ {s : ℕ} {payloads : List (List ℕ)} {d : SenderSide} (v : SenderKeep
 
   pack-does : (src dst : ℕ) (out : List ℕ) → (d .closing ≡ true → callSender d (pack src dst out) .left .made ≡ d .made)
       → SenderDoes s payloads (callSender d (pack src dst out))
-  pack-does src dst out fair = by _ (packing-says src dst out d (v .addsUp)) fair
+  pack-does src dst out fair = by _ (packing-says (limitOf d) (d .queue) (d .next) src dst out (v .addsUp)) fair
     where
       bytes : List ℕ
       bytes = d .queue .bytes
@@ -197,7 +167,7 @@ module _ {s : ℕ} {payloads : List (List ℕ)} {d : SenderSide} (v : SenderKeep
       none-made : d .made ++ numbered src dst (d .next) more ≡ d .made → length more ≡ 0
       none-made e = omega (arith, length-append (d .made) (numbered src dst (d .next) more), ap length e, length-numbered src dst (d .next) more)
 
-      by : (said : Said DataPacked) → Says d said → (d .closing ≡ true → packedBy said src dst d .made ≡ d .made)
+      by : (said : Said DataPacked) → Says (limitOf d) (d .queue) (d .next) said → (d .closing ≡ true → packedBy said src dst d .made ≡ d .made)
           → SenderDoes s payloads (record { refusals = refusalIn said ∷ []; left = packedBy said src dst d })
       by said (stays n other) fair = record { more = []; keeps = rw append-nil v; never12 = λ h. other (sym (only h)) }
       by said (takes h) fair =

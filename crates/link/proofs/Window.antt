@@ -4,21 +4,19 @@
 use Prim.Native.Nat.{ℕ, zero, suc, _+_, _-_, _≤_, _<_}
 use mathlib.Core.Path.{_≡_, refl, sym, ap, _∙_}
 use mathlib.Core.Bool.{Bool, true, false, _||_, false≢true, or-true}
-use mathlib.Core.List.{List, [], _++_}
+use mathlib.Core.List.{List, _++_}
 use mathlib.Core.Option.{Option}
 use native.Mathlib.Nat.{le-of-suc-le-suc, not-suc-le-zero, le-refl}
 use native.Mathlib.Omega.{arith}
 use lib.Dec.{ltb, leb}
 use borrow.Author.Tests.{ltb-true, ltb-false, le-leb, ne-eqb}
-use Rattle.refusal.specs.Said.{refusalIn}
 use Rattle.lists.proofs.Tests.{both}
-use Rattle.window.specs.Window.{Outcome, expected, window, held, member, wellFormed, numbers, insertPacketNumber, beforeHeld, insertRange, consume}
+use Rattle.window.specs.Window.{Outcome, expected, held, member, wellFormed, numbers, insertPacketNumber, beforeHeld, insertRange, consume}
 use Rattle.window.specs.declared.SlidingWindow.{SlidingWindow}
 use Rattle.ordered_bytes.specs.declared.OrderedBytes.{OrderedBytes}
 use Rattle.window.proofs.Rises.{bound, not-below, well-formed}
 use Rattle.window.proofs.Members.{among, member-append, member-numbers}
 use Rattle.window.proofs.Calls as calls
-use Rattle.receive.proofs.Twelve.{range-never}
 use Rattle.link.specs.Demand3.{WindowSide, WindowCall, insert, insert-range, consume-window, Ack, Link, Memory, Called, withCells, withEntered}
 use Rattle.link.specs.Demand3.{insertedBy, rangeInsertedBy, consumedBy, expectsAfter, callWindow, fresh, In, FairWindow, ExpectsFirst}
 use Rattle.link.proofs.All.{only}
@@ -167,25 +165,6 @@ module _ {s f : ℕ} {d : WindowSide} (v : WindowKeeps s f d) where
       by o (calls.run last size q any sum up run end kept) = rw q (sym (v .same (last + 1) (omega arith)) ∙ end)
       by o (calls.nothing q end) = rw (q, v .expects) (sym (v .same (expected (d .state)) (le-refl (expected (d .state)))) ∙ end)
 
-  -- ---- no call answers 12
-
-  insert-well : (n : ℕ) → refusalIn (insertPacketNumber (d .state) (d .cells) n .0) ≡ 12 → ⊥
-  insert-well n = by (insertPacketNumber (d .state) (d .cells) n) (calls.insert-law (d .state) (d .cells) (v .good) n .0)
-    where
-      by : (o : Outcome Unit) → calls.Insertion (d .state) (d .cells) n o → refusalIn (o .0) ≡ 12 → ⊥
-      by o (calls.stores q new a) e = omega (arith, rw q at e)
-      by o (calls.refusal r q not-12) e = not-12 (rw q at e)
-
-  range-well : (base count : ℕ) → refusalIn (insertRange (d .state) (d .cells) base count .0) ≡ 12 → ⊥
-  range-well base count = range-never (d .state) (d .cells) base count (v .good)
-
-  consume-well : refusalIn (consume (d .state) (d .cells) .0) ≡ 12 → ⊥
-  consume-well = by (consume (d .state) (d .cells)) (calls.consume-law (d .state) (d .cells) (v .good) .0)
-    where
-      by : (o : Outcome (Option (ℕ × ℕ))) → calls.Consumption (d .state) (d .cells) o → refusalIn (o .0) ≡ 12 → ⊥
-      by o (calls.run last size q any sum up run end kept) e = omega (arith, rw q at e)
-      by o (calls.nothing q end) e = omega (arith, rw q at e)
-
 -- after a consume, also one that answers none, the window expects the first number that has not entered
 pub consume-first : {s f : ℕ} {d : WindowSide} → WindowKeeps s f d → ExpectsFirst s (callWindow d consume-window .left)
 consume-first v =
@@ -201,10 +180,13 @@ pub window-does : {s f : ℕ} (l : Link) (c : WindowCall) → WindowKeeps s f (l
     → FairWindow l c → WindowDoes s f (callWindow (l .acked) c)
 window-does l (insert n) v within fair = record {
   keeps = insert-keeps v n (omega (arith, within (fair .ack) (fair .given), fair .below));
-  never12 = λ h. insert-well v n (sym (only h));
+  never12 = λ h. calls.insert-fine (l .acked .state) (l .acked .cells) (v .good) n .never (sym (only h));
 }
 window-does l (insert-range base count) v within fair = record {
   keeps = range-keeps v base count (within (record { base = base; count = count }) fair);
-  never12 = λ h. range-well v base count (sym (only h));
+  never12 = λ h. calls.range-fine (l .acked .state) (l .acked .cells) (v .good) base count .never (sym (only h));
 }
-window-does l consume-window v within fair = record { keeps = consume-keeps v; never12 = λ h. consume-well v (sym (only h)) }
+window-does l consume-window v within fair = record {
+  keeps = consume-keeps v;
+  never12 = λ h. calls.consume-fine (l .acked .state) (l .acked .cells) (v .good) .never (sym (only h));
+}
