@@ -11,6 +11,19 @@ pub fn read_word() -> u64 {
     parts::get8(&word, 0)
 }
 
+// The next word as a number of so many bits: the recorded ones fit.
+pub fn read_u8() -> u8 {
+    (read_word() % 256) as u8
+}
+
+pub fn read_u16() -> u16 {
+    (read_word() % 65536) as u16
+}
+
+pub fn read_u32() -> u32 {
+    (read_word() % 4294967296) as u32
+}
+
 // A length: the next word, or buf's length where that is less.
 pub fn read_length(buf: &[u8]) -> usize
     ensures { λ r. ⌜ Counts r (now (buf .entry)) ⌝ }

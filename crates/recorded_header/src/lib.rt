@@ -17,30 +17,18 @@ pub fn read_type() -> PacketType {
     }
 }
 
-fn read_u8() -> u8 {
-    (recorded::read_word() % 256) as u8
-}
-
-fn read_u16() -> u16 {
-    (recorded::read_word() % 65536) as u16
-}
-
-pub fn read_u32() -> u32 {
-    (recorded::read_word() % 4294967296) as u32
-}
-
 pub fn read_security() -> BluefinSecurityFields {
     let encrypted = recorded::read_word() != 0;
-    BluefinSecurityFields::new(encrypted, read_u8())
+    BluefinSecurityFields::new(encrypted, recorded::read_u8())
 }
 
 pub fn read_header() -> BluefinHeader {
-    let version = read_u8();
+    let version = recorded::read_u8();
     let type_field = read_type();
-    let field = read_u16();
+    let field = recorded::read_u16();
     let security = read_security();
-    let source = read_u32();
-    let destination = read_u32();
+    let source = recorded::read_u32();
+    let destination = recorded::read_u32();
     let number = recorded::read_word();
     let mut h = BluefinHeader::new(source, destination, type_field, field, security);
     h.version = version;

@@ -20,8 +20,8 @@ fn yes(b: bool) -> u64 {
 fn hello(command: u64) {
     let host = read_host();
     let packet_type = recorded_header::read_type();
-    let source = recorded_header::read_u32();
-    let destination = recorded_header::read_u32();
+    let source = recorded::read_u32();
+    let destination = recorded::read_u32();
     let h = net::build_empty_encrypted_packet(source, destination, 0, packet_type);
     if command == 1 {
         recorded::begin_line(yes(net::is_hello_packet(host, h)));
@@ -32,8 +32,8 @@ fn hello(command: u64) {
 
 // The payload's length comes first: a header alone has none.
 fn build_empty() {
-    let source = recorded_header::read_u32();
-    let destination = recorded_header::read_u32();
+    let source = recorded::read_u32();
+    let destination = recorded::read_u32();
     let number = recorded::read_word();
     let packet_type = recorded_header::read_type();
     let h = net::build_empty_encrypted_packet(source, destination, number, packet_type);
@@ -50,28 +50,17 @@ fn print_written(written: HeaderWritten, buf: &[u8]) {
     recorded::print_bytes(buf);
 }
 
-fn fin(buf: &mut [u8]) {
-    let source = recorded_header::read_u32();
-    let destination = recorded_header::read_u32();
-    let number = recorded::read_word();
-    let written = net::write_fin(source, destination, number, buf);
-    print_written(written, buf);
-}
-
-fn fin_ack(buf: &mut [u8]) {
-    let source = recorded_header::read_u32();
-    let destination = recorded_header::read_u32();
-    let number = recorded::read_word();
-    let written = net::write_fin_ack(source, destination, number, buf);
-    print_written(written, buf);
-}
-
 fn control(command: u64) {
+    let source = recorded::read_u32();
+    let destination = recorded::read_u32();
+    let number = recorded::read_word();
     let mut buf = [9u8; net::BLUEFIN_HEADER_SIZE_BYTES];
     if command == 4 {
-        fin(&mut buf);
+        let written = net::write_fin(source, destination, number, &mut buf);
+        print_written(written, &buf);
     } else {
-        fin_ack(&mut buf);
+        let written = net::write_fin_ack(source, destination, number, &mut buf);
+        print_written(written, &buf);
     }
 }
 

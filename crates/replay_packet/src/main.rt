@@ -45,20 +45,23 @@ fn print_written(index: &[u32]) {
     }
 }
 
+fn print_parsed(parsed: Parsed, index: &[u32]) {
+    recorded::print_number(count_or_cursor(parsed));
+    print_written(index);
+}
+
 fn parse(datagram: &[u8]) {
     let mut index = [UNWRITTEN; INDEX_LEN];
     let parsed = packet::from_bytes(datagram, &mut index);
     recorded::begin_line(kind(parsed));
-    recorded::print_number(count_or_cursor(parsed));
-    print_written(&index);
+    print_parsed(parsed, &index);
 }
 
 fn parse_into(datagram: &[u8]) {
     let mut index = [UNWRITTEN; INDEX_LEN];
     let parsed = packet::from_bytes_into(datagram, &mut index);
     recorded::print_number(kind(parsed));
-    recorded::print_number(count_or_cursor(parsed));
-    print_written(&index);
+    print_parsed(parsed, &index);
 }
 
 fn print_both(datagram: &[u8]) {

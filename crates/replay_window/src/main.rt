@@ -41,7 +41,7 @@ fn insert(w: SlidingWindow, cells: &mut [u64]) -> SlidingWindow {
 
 fn insert_range(w: SlidingWindow, cells: &mut [u64]) -> SlidingWindow {
     let base = recorded::read_word();
-    let count = (recorded::read_word() % 65536) as u16;
+    let count = recorded::read_u16();
     match window::insert_range(w, cells, base, count) {
         RangeInserted::Stored(after) => {
             recorded::begin_line(0);

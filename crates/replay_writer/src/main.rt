@@ -30,10 +30,6 @@ fn fill_queue(bytes: &mut [u8]) {
     }
 }
 
-fn read_u32() -> u32 {
-    (recorded::read_word() % 4_294_967_296) as u32
-}
-
 // The lengths of the queue's entries, recorded behind their number. Answers how many of the cells they are: none where the cells are too few.
 fn read_entries(lengths: &mut [u32]) -> usize
     ensures { λ r. ⌜ Counts r (now (lengths .exit)) ⌝ }
@@ -44,7 +40,7 @@ fn read_entries(lengths: &mut [u32]) -> usize
     }
     let mut i = 0;
     while i < n {
-        lengths[i] = read_u32();
+        lengths[i] = recorded::read_u32();
         i += 1;
     }
     n
@@ -85,8 +81,8 @@ fn pack_into(
 
 fn pack(bytes: &[u8]) {
     let next_packet_num = recorded::read_word();
-    let src_conn_id = read_u32();
-    let dst_conn_id = read_u32();
+    let src_conn_id = recorded::read_u32();
+    let dst_conn_id = recorded::read_u32();
     let mut out = [BEFORE; OUT_LEN];
     let room = recorded::read_length(&out);
     let total = recorded::read_length(bytes);

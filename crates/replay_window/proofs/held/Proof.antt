@@ -9,11 +9,5 @@ use Rattle.replay_window.proofs.held.Tie as tie
 slice-aggregate-result : tie.Need-slice-aggregate-result
 slice-aggregate-result c = sym (length-take-le _ _ (omega arith))
 
-returns : tie.Need-returns
-returns c = search needs
-
-returns-2 : tie.Need-returns-2
-returns-2 c = search needs
-
 pub held-spec : {M : Type 1} → statement M
-held-spec = tie.close (tie.spec slice-aggregate-result returns returns-2)
+held-spec = tie.close (tie.spec slice-aggregate-result (λ c. search needs) (λ c. search needs))
