@@ -6,30 +6,7 @@ use Rattle.samples.specs.PacketRows.{PacketRows, ParserRows}
 
 pub packet-rows : PacketRows
 unfolding headerBytes headerAt
-packet-rows = record {
-  writes-22 = refl;
-  writes-21 = refl;
-  writes-23 = refl;
-  writes-header-alone = refl;
-  writes-header-alone-short = refl;
-  field-below = refl;
-  field-above = refl;
-  version-15 = refl;
-  version-16 = refl;
-  mask-128 = refl;
-  version-before-room = refl;
-  mask-before-room = refl;
-  reads-no-byte = refl;
-  reads-19 = refl;
-  reads-20 = refl;
-  reads-25 = refl;
-  reads-type-6 = refl;
-  reads-type-7 = refl;
-  reads-type-15 = refl;
-  type-7-in-19 = refl;
-  bytes-after = refl;
-  no-byte-after = refl;
-}
+packet-rows = search
 
 pub parser-rows : ParserRows
 unfolding readingLimit payloadMissing walkBy packetsOf flat parsed

@@ -1,5 +1,4 @@
 -- The boundaries of a whole datagram by one call hold of its definitions: each row computes. Assumes nothing.
-use mathlib.Core.Path.{refl}
 use Rattle.header.specs.Header.{headerAt}
 use Rattle.packet.specs.Datagram.{readingLimit, payloadMissing, walkBy, packetsOf, flat, parsed, listed}
 use Rattle.ordered_bytes.specs.Receiver.{numbersFit}
@@ -13,25 +12,9 @@ use Rattle.samples.specs.ReceiveRows.{ReceiveRows, ReceiveAcksRows}
 
 pub receive-rows : ReceiveRows
 unfolding headerAt readingLimit payloadMissing walkBy packetsOf flat parsed listed numbersFit allWithin view buffer.wellFormed accepting takesAll receiving
-receive-rows = record {
-  two-of-three = refl;
-  refused-ones = refl;
-  tail = refl;
-  no-cell = refl;
-  answers-short = refl;
-  answers-before-listing = refl;
-  each-12 = refl;
-}
+receive-rows = search
 
 pub receive-acks-rows : ReceiveAcksRows
 unfolding headerAt readingLimit payloadMissing walkBy packetsOf flat parsed listed member rising allHoldable window.wellFormed place numbers beforeHeld insertRange
     takesAll receivingAcks
-receive-acks-rows = record {
-  one-of-two = refl;
-  refused-ones = refl;
-  tail = refl;
-  no-cell = refl;
-  answers-short = refl;
-  answers-before-listing = refl;
-  each-12 = refl;
-}
+receive-acks-rows = search

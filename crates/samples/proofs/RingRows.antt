@@ -9,55 +9,7 @@ use Rattle.samples.specs.AckRows.{AckRows}
 
 pub ring-rows : RingRows
 unfolding blanked
-ring-rows = record {
-  new = refl;
-  capacity-0-len = refl;
-  capacity-0-empty = refl;
-  capacity-0-full = refl;
-  capacity-0-push-back = refl;
-  capacity-0-push-front = refl;
-  capacity-0-pop = refl;
-  capacity-0-front = refl;
-  capacity-0-clear = refl;
-  capacity-1-push-back = refl;
-  capacity-1-push-front = refl;
-  capacity-1-len = refl;
-  capacity-1-empty = refl;
-  capacity-1-full = refl;
-  capacity-1-gives-back = refl;
-  capacity-1-front-gives-back = refl;
-  capacity-1-pop = refl;
-  capacity-1-pop-empty = refl;
-  empty-len = refl;
-  empty-empty = refl;
-  empty-full = refl;
-  empty-pop = refl;
-  empty-front = refl;
-  full-len = refl;
-  full-empty = refl;
-  full-full = refl;
-  full-push-back = refl;
-  full-push-front = refl;
-  full-front = refl;
-  push-back-last-cell = refl;
-  push-back-round = refl;
-  push-front-round = refl;
-  push-front-first-cell = refl;
-  pop-last-cell = refl;
-  pop-first-cell = refl;
-  front-last-cell = refl;
-  clear-round = refl;
-  clear-full = refl;
-  clear-empty = refl;
-  push-back-12 = refl;
-  push-front-12 = refl;
-  pop-12 = refl;
-  clear-12 = refl;
-  front-12 = refl;
-  len-12 = refl;
-  is-empty-12 = refl;
-  is-full-12 = refl;
-}
+ring-rows = search
 
 pub ack-rows : AckRows
 unfolding headerBytes blanked datagramLimit ackBytes anyTooLarge consumesAcks flatten

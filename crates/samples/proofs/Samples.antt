@@ -1,16 +1,15 @@
 -- The bench samples hold of the definitions: each row computes. Of 2,000 slots, that the buffer is well formed and what it means is taken from its laws.
 -- Assumes nothing.
-use Prim.Native.Nat.{ℕ}
-use mathlib.Core.Path.{_≡_, refl, ap, _∙_}
-use mathlib.Core.Bool.{Bool, true, false, cond}
-use mathlib.Core.List.{List, [], _∷_}
+use Prim.Native.Nat.{ℕ, _-_}
+use mathlib.Core.Path.{_≡_, refl}
+use mathlib.Core.Bool.{true, false}
+use mathlib.Core.List.{List, []}
 use mathlib.Core.Option.{none}
 use lib.ListN.{replicate}
 use Rattle.refusal.specs.Said.{answers, refuses, checks}
 use Rattle.header.specs.Header.{headerBytes}
 use Rattle.packet.specs.Packet.{joined}
 use Rattle.packet.specs.Datagram.{readingLimit, payloadMissing, walkBy, packetsOf, flat, parsed, listed}
-use Rattle.ring_buffer.specs.Ring as ring
 use Rattle.writer.specs.Packing.{payloadSize, byteLimit, cut, numbered, removal, shortened, sum, packing}
 use Rattle.writer.specs.Acks.{datagramLimit, anyTooLarge, consumesAcks}
 use Rattle.window.specs.Window.{member, rising, allHoldable, wellFormed, place, numbers, insertPacketNumber, beforeHeld, insertRange}
@@ -22,22 +21,12 @@ use Rattle.ordered_bytes.proofs.Kept.{create-kept}
 use Rattle.samples.specs.Samples.{Samples, emptyBuffer}
 
 -- what accepting says, once the buffer is known to be well formed and to mean r
-checks-said : (cs : List (Bool × ℕ)) (b c : buffer.Buffer)
-    → checks {A = Acceptance} cs (λ r. record { said = refuses r; buffer = b }) (record { said = answers tt; buffer = c }) .said ≡ checks cs refuses (answers tt)
-checks-said [] b c = refl
-checks-said (k ∷ cs) b c = by (checks-said cs b c) (k .0)
-  where
-    by : checks {A = Acceptance} cs (λ r. record { said = refuses r; buffer = b }) (record { said = answers tt; buffer = c }) .said ≡ checks cs refuses (answers tt) → (t : Bool)
-        → cond {A = Acceptance} t (record { said = refuses (k .1); buffer = b })
-        (checks cs (λ r. record { said = refuses r; buffer = b }) (record { said = answers tt; buffer = c })) .said
-        ≡ cond t (refuses (k .1)) (checks cs refuses (answers tt))
-    by ih true = refl
-    by ih false = ih
-
 accept-said : (b : buffer.Buffer) (r : Receiver) (n : ℕ) (p : List ℕ) → buffer.wellFormed b ≡ true → buffer.view b ≡ r
-    → accepting b n p .said ≡ checks (acceptChecks r n p) refuses (answers tt)
+    → accepting b n p .said
+    ≡ checks {A = Acceptance} (acceptChecks r n p) (λ x. record { said = refuses x; buffer = b })
+    (record { said = answers tt; buffer = buffer.stored b (buffer.slotAt b (n - b .state .«front_number»)) p }) .said
 unfolding accepting
-accept-said b r n p w v = rw w (checks-said (acceptChecks (buffer.view b) n p) b _ ∙ ap (λ (x : Receiver). checks (acceptChecks x n p) refuses (answers tt)) v)
+accept-said b r n p w v = rw (w, v)
 
 abbrev empty : Receiver
 empty = record { front = 100; width = 1; held = replicate 2000 none; carry = [] }

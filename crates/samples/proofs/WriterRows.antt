@@ -45,23 +45,7 @@ packing-rows = record {
 
 pub payload-bytes-rows : PayloadBytesRows
 unfolding payloadBytesBy
-payload-bytes-rows = record {
-  two-packets = refl;
-  any-type = refl;
-  empty-goes-on = refl;
-  no-byte = refl;
-  header-short = refl;
-  payload-short = refl;
-  second-header-short = refl;
-  second-payload-short = refl;
-  ack-payload-short = refl;
-  bytes-65528 = refl;
-}
+payload-bytes-rows = search
 
 pub reserve-rows : ReserveRows
-reserve-rows = record {
-  from-0 = refl;
-  from-7 = refl;
-  last-number = refl;
-  no-number = refl;
-}
+reserve-rows = search

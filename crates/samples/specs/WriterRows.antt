@@ -1,5 +1,5 @@
 -- Boundaries of packing data, of a datagram's payload bytes and of a FIN's number: document 01, "From the queue to a datagram", "From a datagram to packets", "Closing".
-use Prim.Native.Nat.{ℕ, _+_, _-_, _^_}
+use Prim.Native.Nat.{ℕ, _-_, _^_}
 use mathlib.Core.Path.{_≡_}
 use mathlib.Core.List.{List, [], _∷_, _++_}
 use lib.ListN.{replicate}

@@ -17,30 +17,6 @@ use Rattle.samples.proofs.main.Tie as tie
 abbrev held : Bool → ℕ → BluefinSecurityFields
 held e m = record { «header_encrypted» = e; «header_protection_mask» = m }
 
-new-requires : tie.Need-new-requires
-new-requires c κs = search needs
-
-new-requires-2 : tie.Need-new-requires-2
-new-requires-2 c κs = search needs
-
-with-packet-number-requires : tie.Need-with-packet-number-requires
-with-packet-number-requires c κs = search needs
-
-slice-aggregate-serialise-into : tie.Need-slice-aggregate-serialise-into
-slice-aggregate-serialise-into c = search needs
-
-serialise-into-requires : tie.Need-serialise-into-requires
-serialise-into-requires c κs = search needs
-
-slice-aggregate-same : tie.Need-slice-aggregate-same
-slice-aggregate-same c = search needs
-
-slice-aggregate-same-2 : tie.Need-slice-aggregate-same-2
-slice-aggregate-same-2 c = search needs
-
-same-requires : tie.Need-same-requires
-same-requires c κs = search needs
-
 expect-requires : tie.Need-expect-requires
 expect-requires c κs =
     let wrote = c .before .before .before .before in
@@ -51,20 +27,8 @@ expect-requires c κs =
     let said = wrote .serialise-into .ensures ∙ ap (λ (h : BluefinHeader). serialisesInto h (replicate 20 0)) header ∙ samples .data-header in
     c .same .ensures .1 (ap (λ (x : Said ℕ × List ℕ). x .1) said)
 
-returns : tie.Need-returns
-returns c = search needs
-
 pub main-spec : {M : Type 1} → statement M
 main-spec =
     tie.close
-    (tie.spec
-    new-requires
-    new-requires-2
-    with-packet-number-requires
-    slice-aggregate-serialise-into
-    serialise-into-requires
-    slice-aggregate-same
-    slice-aggregate-same-2
-    same-requires
-    expect-requires
-    returns)
+    (tie.spec (λ c κs. search needs) (λ c κs. search needs) (λ c κs. search needs) (λ c. search needs) (λ c κs. search needs) (λ c. search needs)
+    (λ c. search needs) (λ c κs. search needs) expect-requires (λ c. search needs))
