@@ -20,21 +20,6 @@ abbrev μ-loop : tie.MeasureT-loop
 loop-holds : tie.Need-loop-holds Inv-loop μ-loop
 loop-holds c = let a = c .args in (omega arith, refl, paste-zero (a .cells .now) (a .at) (replicate (a .k) 0))
 
-add-cells : tie.Need-add-cells Inv-loop μ-loop
-add-cells c = search needs
-
-mul-cells : tie.Need-mul-cells Inv-loop μ-loop
-mul-cells c = search needs
-
-slice-write-cells : tie.Need-slice-write-cells Inv-loop μ-loop
-slice-write-cells c = search needs
-
-add-i : tie.Need-add-i Inv-loop μ-loop
-add-i c = search needs
-
-loop-less : tie.Need-loop-less Inv-loop μ-loop
-loop-less c = search needs
-
 loop-again : tie.Need-loop-again Inv-loop μ-loop
 loop-again c =
     let l = c .before in
@@ -43,9 +28,6 @@ loop-again c =
     let told = getD-replicate {A = ℕ} (a .k) i 0 0 (omega arith) in
     let turn = write-at (a .cells .now) (replicate (a .k) 0) (a .at) (a .k) i 0 (length-replicate {A = ℕ} (a .k) 0) told (omega arith) (omega arith) in
     (omega arith, simp length-set (omega arith), ap (λ (x : List ℕ). set x (a .at + i) 0) (l .loop .inv .2) ∙ turn)
-
-same-length : tie.Need-same-length Inv-loop μ-loop
-same-length c = search needs
 
 returns : tie.Need-returns Inv-loop μ-loop
 returns c =
@@ -61,11 +43,11 @@ clear-spec =
     Inv-loop
     μ-loop
     loop-holds
-    add-cells
-    mul-cells
-    slice-write-cells
-    add-i
-    loop-less
+    (λ c. search needs)
+    (λ c. search needs)
+    (λ c. search needs)
+    (λ c. search needs)
+    (λ c. search needs)
     loop-again
-    same-length
+    (λ c. search needs)
     returns)

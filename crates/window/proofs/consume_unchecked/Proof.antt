@@ -10,20 +10,11 @@ use Rattle.window.proofs.Loops.{run-fits, consumed-is}
 use Rattle.window.proofs.consume_unchecked.Statement.{statement}
 use Rattle.window.proofs.consume_unchecked.Tie as tie
 
-run-length-requires : tie.Need-run-length-requires
-run-length-requires c κs = search needs
-
-same-length : tie.Need-same-length
-same-length c = search needs
-
 returns : tie.Need-returns
 unfolding consume
 returns c =
     let r = c .before in
     simp (r .before .before .before .pre, sym (r .run-length .ensures .0), eq-eqb _ _ (c .if1 .taken))
-
-sub-rest : tie.Need-sub-rest
-sub-rest c = search needs
 
 shift-down-requires : tie.Need-shift-down-requires
 shift-down-requires c κs =
@@ -46,12 +37,6 @@ add-next c =
     let a = start .args in
     omega (arith, run-fits (a .w) (a .cells .now) (start .pre) (omega arith), r .run-length .ensures .0)
 
-sub-t16 : tie.Need-sub-t16
-sub-t16 c = search needs
-
-same-length-2 : tie.Need-same-length-2
-same-length-2 c = search needs
-
 returns-2 : tie.Need-returns-2
 unfolding consume
 returns-2 c =
@@ -67,13 +52,13 @@ pub consume-unchecked-spec : {M : Type 1} → statement M
 consume-unchecked-spec =
     tie.close
     (tie.spec
-    run-length-requires
-    same-length
+    (λ c κs. search needs)
+    (λ c. search needs)
     returns
-    sub-rest
+    (λ c. search needs)
     shift-down-requires
     clear-requires
     add-next
-    sub-t16
-    same-length-2
+    (λ c. search needs)
+    (λ c. search needs)
     returns-2)

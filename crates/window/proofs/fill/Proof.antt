@@ -21,24 +21,6 @@ abbrev μ-loop : tie.MeasureT-loop
 loop-holds : tie.Need-loop-holds Inv-loop μ-loop
 loop-holds c = let a = c .args in (omega arith, refl, paste-zero (a .cells .now) (a .at) (numbers (a .base) (a .k)))
 
-add-cells : tie.Need-add-cells Inv-loop μ-loop
-add-cells c = search needs
-
-add-cells-2 : tie.Need-add-cells-2 Inv-loop μ-loop
-add-cells-2 c = search needs
-
-mul-cells : tie.Need-mul-cells Inv-loop μ-loop
-mul-cells c = search needs
-
-slice-write-cells : tie.Need-slice-write-cells Inv-loop μ-loop
-slice-write-cells c = search needs
-
-add-i : tie.Need-add-i Inv-loop μ-loop
-add-i c = search needs
-
-loop-less : tie.Need-loop-less Inv-loop μ-loop
-loop-less c = search needs
-
 loop-again : tie.Need-loop-again Inv-loop μ-loop
 loop-again c =
     let l = c .before in
@@ -47,9 +29,6 @@ loop-again c =
     let told = getD-numbers (a .base) (a .k) i (omega arith) in
     let turn = write-at (a .cells .now) (numbers (a .base) (a .k)) (a .at) (a .k) i (a .base + i) (length-numbers (a .base) (a .k)) told (omega arith) (omega arith) in
     (omega arith, simp length-set (omega arith), ap (λ (x : List ℕ). set x (a .at + i) (a .base + i)) (l .loop .inv .2) ∙ turn)
-
-same-length : tie.Need-same-length Inv-loop μ-loop
-same-length c = search needs
 
 returns : tie.Need-returns Inv-loop μ-loop
 returns c =
@@ -65,12 +44,12 @@ fill-spec =
     Inv-loop
     μ-loop
     loop-holds
-    add-cells
-    add-cells-2
-    mul-cells
-    slice-write-cells
-    add-i
-    loop-less
+    (λ c. search needs)
+    (λ c. search needs)
+    (λ c. search needs)
+    (λ c. search needs)
+    (λ c. search needs)
+    (λ c. search needs)
     loop-again
-    same-length
+    (λ c. search needs)
     returns)

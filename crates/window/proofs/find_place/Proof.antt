@@ -20,9 +20,6 @@ abbrev μ-loop : tie.MeasureT-loop
 loop-holds : tie.Need-loop-holds Inv-loop μ-loop
 loop-holds c = (omega arith, refl)
 
-sub-if1 : tie.Need-sub-if1 Inv-loop μ-loop
-sub-if1 c = search needs
-
 mul-if1 : tie.Need-mul-if1 Inv-loop μ-loop
 mul-if1 c =
     let l = c .before in
@@ -47,12 +44,6 @@ returns c =
     let behind = place-behind (bound (a .w)) (expected (a .w)) (a .n) (a .w .count) (i - 1) (a .cells .now) (wf .rises) (omega arith) (wf .fits) (omega arith) in
     (sym (l .loop .inv .1 ∙ rw q at behind), omega arith)
 
-sub-i : tie.Need-sub-i Inv-loop μ-loop
-sub-i c = search needs
-
-loop-less : tie.Need-loop-less Inv-loop μ-loop
-loop-less c = search needs
-
 loop-again : tie.Need-loop-again Inv-loop μ-loop
 loop-again c =
     let l = c .before .before .before in
@@ -75,11 +66,11 @@ find-place-spec =
     Inv-loop
     μ-loop
     loop-holds
-    sub-if1
+    (λ c. search needs)
     mul-if1
     shared-slice-read-if1
     returns
-    sub-i
-    loop-less
+    (λ c. search needs)
+    (λ c. search needs)
     loop-again
     returns-2)

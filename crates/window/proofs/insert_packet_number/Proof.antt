@@ -7,12 +7,6 @@ use Rattle.window.specs.Window.{insertPacketNumber}
 use Rattle.window.proofs.insert_packet_number.Statement.{statement}
 use Rattle.window.proofs.insert_packet_number.Tie as tie
 
-well-formed-requires : tie.Need-well-formed-requires
-well-formed-requires c κs = search needs
-
-same-length : tie.Need-same-length
-same-length c = search needs
-
 returns : tie.Need-returns
 unfolding insertPacketNumber
 returns c = simp (sym (c .before .well-formed .ensures) ∙ not-true _ (c .if1 .taken))
@@ -20,19 +14,13 @@ returns c = simp (sym (c .before .well-formed .ensures) ∙ not-true _ (c .if1 .
 insert-packet-number-unchecked-requires : tie.Need-insert-packet-number-unchecked-requires
 insert-packet-number-unchecked-requires c κs = sym (c .before .before .well-formed .ensures) ∙ not-false _ (c .before .if1 .left)
 
-same-length-2 : tie.Need-same-length-2
-same-length-2 c = search needs
-
-returns-2 : tie.Need-returns-2
-returns-2 c = search needs
-
 pub insert-packet-number-spec : {M : Type 1} → statement M
 insert-packet-number-spec =
     tie.close
     (tie.spec
-    well-formed-requires
-    same-length
+    (λ c κs. search needs)
+    (λ c. search needs)
     returns
     insert-packet-number-unchecked-requires
-    same-length-2
-    returns-2)
+    (λ c. search needs)
+    (λ c. search needs))

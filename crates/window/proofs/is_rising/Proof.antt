@@ -20,12 +20,6 @@ abbrev μ-loop : tie.MeasureT-loop
 loop-holds : tie.Need-loop-holds Inv-loop μ-loop
 loop-holds c = (omega arith, refl)
 
-sub-loop : tie.Need-sub-loop Inv-loop μ-loop
-sub-loop c = search needs
-
-five-rise-requires : tie.Need-five-rise-requires Inv-loop μ-loop
-five-rise-requires c κs = search needs
-
 returns : tie.Need-returns Inv-loop μ-loop
 returns c =
     let l = c .before .before .before in
@@ -34,12 +28,6 @@ returns c =
     let turn = rising-five (a .cells .now) (a .count) (l .loop .i) (omega arith) (omega arith) in
     sym (l .loop .inv .1 ∙ rw (turn, ← five .ensures, not-true (five .result) (c .if1 .taken)))
 
-add-i : tie.Need-add-i Inv-loop μ-loop
-add-i c = search needs
-
-loop-less : tie.Need-loop-less Inv-loop μ-loop
-loop-less c = search needs
-
 loop-again : tie.Need-loop-again Inv-loop μ-loop
 loop-again c =
     let l = c .before .before .before in
@@ -47,9 +35,6 @@ loop-again c =
     let five = c .before .five-rise in
     let turn = rising-five (a .cells .now) (a .count) (l .loop .i) (omega arith) (omega arith) in
     (omega arith, l .loop .inv .1 ∙ rw (turn, ← five .ensures, not-false (five .result) (c .if1 .left)))
-
-is-rising-from-requires : tie.Need-is-rising-from-requires Inv-loop μ-loop
-is-rising-from-requires c κs = search needs
 
 returns-2 : tie.Need-returns-2 Inv-loop μ-loop
 returns-2 c = c .is-rising-from .ensures ∙ sym (c .before .before .loop .inv .1)
@@ -61,11 +46,11 @@ is-rising-spec =
     Inv-loop
     μ-loop
     loop-holds
-    sub-loop
-    five-rise-requires
+    (λ c. search needs)
+    (λ c κs. search needs)
     returns
-    add-i
-    loop-less
+    (λ c. search needs)
+    (λ c. search needs)
     loop-again
-    is-rising-from-requires
+    (λ c κs. search needs)
     returns-2)

@@ -51,12 +51,6 @@ returns c =
     let turn = run-at (expected (a .w) + l .loop .i) (a .cells .now) (a .w .count) (l .loop .i) (omega arith) (wf .fits) in
     (sym (l .loop .inv .1 ∙ rw (turn, ne-eqb _ _ (c .if1 .taken)) (omega arith)), omega arith)
 
-add-i : tie.Need-add-i Inv-loop μ-loop
-add-i c = search needs
-
-loop-less : tie.Need-loop-less Inv-loop μ-loop
-loop-less c = search needs
-
 loop-again : tie.Need-loop-again Inv-loop μ-loop
 loop-again c =
     let l = c .before .before .before in
@@ -87,7 +81,7 @@ run-length-spec =
     shared-slice-read-if1
     add-if1
     returns
-    add-i
-    loop-less
+    (λ c. search needs)
+    (λ c. search needs)
     loop-again
     returns-2)

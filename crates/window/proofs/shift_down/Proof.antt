@@ -17,32 +17,8 @@ Inv-loop cells₀ k count rest i₀ cells i = (i ≤ rest) × (length cells ≡ 
 abbrev μ-loop : tie.MeasureT-loop
 μ-loop cells₀ k count rest i₀ cells i = rest - i
 
-sub-rest : tie.Need-sub-rest Inv-loop μ-loop
-sub-rest c = search needs
-
 loop-holds : tie.Need-loop-holds Inv-loop μ-loop
 loop-holds c = let a = c .args in (omega arith, refl, paste-zero (a .cells .now) 0 (drop (a .k) (a .cells .now)))
-
-add-cells : tie.Need-add-cells Inv-loop μ-loop
-add-cells c = search needs
-
-mul-cells : tie.Need-mul-cells Inv-loop μ-loop
-mul-cells c = search needs
-
-slice-read-cells : tie.Need-slice-read-cells Inv-loop μ-loop
-slice-read-cells c = search needs
-
-mul-cells-2 : tie.Need-mul-cells-2 Inv-loop μ-loop
-mul-cells-2 c = search needs
-
-slice-write-cells : tie.Need-slice-write-cells Inv-loop μ-loop
-slice-write-cells c = search needs
-
-add-i : tie.Need-add-i Inv-loop μ-loop
-add-i c = search needs
-
-loop-less : tie.Need-loop-less Inv-loop μ-loop
-loop-less c = search needs
 
 loop-again : tie.Need-loop-again Inv-loop μ-loop
 loop-again c =
@@ -51,9 +27,6 @@ loop-again c =
     let i = l .loop .i in
     let turn = shift-down (a .cells .now) 0 i (a .k) (omega arith) in
     (omega arith, simp length-set (omega arith), ap (λ (x : List ℕ). set x i (getD x (i + a .k) 0)) (l .loop .inv .2) ∙ turn)
-
-same-length : tie.Need-same-length Inv-loop μ-loop
-same-length c = search needs
 
 returns : tie.Need-returns Inv-loop μ-loop
 returns c =
@@ -68,15 +41,15 @@ shift-down-spec =
     (tie.spec
     Inv-loop
     μ-loop
-    sub-rest
+    (λ c. search needs)
     loop-holds
-    add-cells
-    mul-cells
-    slice-read-cells
-    mul-cells-2
-    slice-write-cells
-    add-i
-    loop-less
+    (λ c. search needs)
+    (λ c. search needs)
+    (λ c. search needs)
+    (λ c. search needs)
+    (λ c. search needs)
+    (λ c. search needs)
+    (λ c. search needs)
     loop-again
-    same-length
+    (λ c. search needs)
     returns)

@@ -23,27 +23,6 @@ loop-holds c =
     let z : a .count - a .count ≡ 0 = omega arith in
     (omega arith, omega arith, refl, rw z (paste-zero (a .cells .now) (a .count + a .k) (drop (a .count) (a .cells .now))))
 
-sub-i : tie.Need-sub-i Inv-loop μ-loop
-sub-i c = search needs
-
-mul-cells : tie.Need-mul-cells Inv-loop μ-loop
-mul-cells c = search needs
-
-slice-read-cells : tie.Need-slice-read-cells Inv-loop μ-loop
-slice-read-cells c = search needs
-
-add-cells : tie.Need-add-cells Inv-loop μ-loop
-add-cells c = search needs
-
-mul-cells-2 : tie.Need-mul-cells-2 Inv-loop μ-loop
-mul-cells-2 c = search needs
-
-slice-write-cells : tie.Need-slice-write-cells Inv-loop μ-loop
-slice-write-cells c = search needs
-
-loop-less : tie.Need-loop-less Inv-loop μ-loop
-loop-less c = search needs
-
 loop-again : tie.Need-loop-again Inv-loop μ-loop
 loop-again c =
     let l = c .before .before in
@@ -51,9 +30,6 @@ loop-again c =
     let i = l .loop .i in
     let turn = shift-up (a .cells .now) 0 i (a .k) (a .count) (omega arith) (omega arith) (omega arith) in
     (omega arith, omega arith, simp length-set (omega arith), ap (λ (x : List ℕ). set x (i - 1 + a .k) (getD x (i - 1) 0)) (l .loop .inv .3) ∙ turn)
-
-same-length : tie.Need-same-length Inv-loop μ-loop
-same-length c = search needs
 
 returns : tie.Need-returns Inv-loop μ-loop
 returns c =
@@ -69,13 +45,13 @@ shift-up-spec =
     Inv-loop
     μ-loop
     loop-holds
-    sub-i
-    mul-cells
-    slice-read-cells
-    add-cells
-    mul-cells-2
-    slice-write-cells
-    loop-less
+    (λ c. search needs)
+    (λ c. search needs)
+    (λ c. search needs)
+    (λ c. search needs)
+    (λ c. search needs)
+    (λ c. search needs)
+    (λ c. search needs)
     loop-again
-    same-length
+    (λ c. search needs)
     returns)

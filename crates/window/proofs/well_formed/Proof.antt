@@ -15,9 +15,6 @@ returns : tie.Need-returns
 unfolding wellFormed
 returns c = simp (lt-leb _ _ (c .if1 .taken))
 
-is-rising-requires : tie.Need-is-rising-requires
-is-rising-requires c κs = search needs
-
 returns-2 : tie.Need-returns-2
 unfolding wellFormed
 returns-2 c =
@@ -32,15 +29,6 @@ returns-3 c =
     let none : allHoldable (a .w) (take (a .w .count) (a .cells .now)) ≡ true = rw (c .if3 .taken) in
     simp (le-leb _ _ (r .before .if1 .left), sym (r .is-rising .ensures) ∙ not-false _ (c .before .if2 .left), none)
 
-sub-last : tie.Need-sub-last
-sub-last c = search needs
-
-shared-slice-read-is-holdable : tie.Need-shared-slice-read-is-holdable
-shared-slice-read-is-holdable c = search needs
-
-is-holdable-requires : tie.Need-is-holdable-requires
-is-holdable-requires c κs = search needs
-
 returns-4 : tie.Need-returns-4
 unfolding wellFormed
 returns-4 c =
@@ -50,15 +38,6 @@ returns-4 c =
     let up = sym (r .is-rising .ensures) ∙ not-false _ (h .before .before .before .if2 .left) in
     let ends = holdable-ends (a .w) (a .cells .now) (a .w .count) (omega arith) (omega arith) up in
     simp (le-leb _ _ (r .before .if1 .left), up, ends, sym (h .is-holdable .ensures) ∙ not-true _ (c .if4 .taken))
-
-mul-is-holdable : tie.Need-mul-is-holdable
-mul-is-holdable c = search needs
-
-shared-slice-read-is-holdable-2 : tie.Need-shared-slice-read-is-holdable-2
-shared-slice-read-is-holdable-2 c = search needs
-
-is-holdable-requires-2 : tie.Need-is-holdable-requires-2
-is-holdable-requires-2 c κs = search needs
 
 returns-5 : tie.Need-returns-5
 unfolding wellFormed
@@ -75,14 +54,14 @@ well-formed-spec =
     tie.close
     (tie.spec
     returns
-    is-rising-requires
+    (λ c κs. search needs)
     returns-2
     returns-3
-    sub-last
-    shared-slice-read-is-holdable
-    is-holdable-requires
+    (λ c. search needs)
+    (λ c. search needs)
+    (λ c κs. search needs)
     returns-4
-    mul-is-holdable
-    shared-slice-read-is-holdable-2
-    is-holdable-requires-2
+    (λ c. search needs)
+    (λ c. search needs)
+    (λ c κs. search needs)
     returns-5)
