@@ -9,17 +9,17 @@ use mathlib.Core.Option.{Option, none, some}
 use native.Mathlib.Omega.{arith}
 use lib.ListN.{length}
 use lib.Dec.{ltb, leb, eqb}
-use borrow.Author.Tests.{ltb-true, ltb-false, leb-true, leb-false, le-ltb, lt-leb, ne-eqb, eqb-true, eqb-false, not-true}
+use borrow.Author.Tests.{ltb-true, ltb-false, leb-false, le-ltb, lt-leb, ne-eqb, eqb-true, eqb-false, not-true}
 use Rattle.refusal.specs.Said.{Said, answers, refuses, refusalIn, checks}
 use Rattle.refusal.proofs.Checks.{Passed, Failed, Checked, passes, fails, checked}
 use Rattle.lists.specs.Numbers.{largest}
 use Rattle.lists.proofs.Tests.{both}
 use Rattle.window.specs.declared.SlidingWindow.{SlidingWindow}
-use Rattle.window.specs.Window.{windowSize, Outcome, refused, expected, window, held, tooFew, member, wellFormed, storedCells, grown, beforeHeld, storedBefore, storeRun}
+use Rattle.window.specs.Window.{windowSize, Outcome, refused, expected, window, held, tooFew, member, wellFormed, storedCells, grown, numbers, beforeHeld, storedBefore, storeRun}
 use Rattle.window.specs.Window.{insertChecks, insertPacketNumber, rangeChecks, insertRange, runLength, consumedCells, advanced, consume}
 use Rattle.window.proofs.Rises.{bound, WellFormed, well-formed, well-formed-is}
 use Rattle.window.proofs.Loops.{stored-none}
-use Rattle.window.proofs.Members.{among, member-stored, before-free, before-within, before-held, run-held, run-ends, run-dropped}
+use Rattle.window.proofs.Members.{among, member-stored, member-numbers, before, run-held, run-ends, run-dropped}
 use Rattle.window.proofs.Kept.{held-stored, held-consumed, length-stored-cells, length-consumed-cells, stored-keeps, consumed-keeps}
 
 -- a call that came to o leaves the window well formed
@@ -122,12 +122,12 @@ module _ (w : SlidingWindow) (cells : List ℕ) (h : wellFormed w cells ≡ true
   range-stored base count low room true q =
       let k = beforeHeld base count (held w cells) in
       let l = ltb-true k count q in
-      stops k l refl (λ i m. before-free base count i (held w cells) m) (before-held base count (held w cells) l) (adds (refuses 7) base k low room)
+      stops k l refl (before base count (held w cells) .free) (before base count (held w cells) .held l) (adds (refuses 7) base k low room)
   range-stored base count low room false q =
       let l = ltb-false (beforeHeld base count (held w cells)) count q in
-      let m = before-within base count (held w cells) in
+      let m = before base count (held w cells) .within in
       let all : beforeHeld base count (held w cells) ≡ count = omega arith in
-      rw all (stores refl (λ i n. before-free base count i (held w cells) (rw all n)) (adds (answers tt) base count low (rw all at room)))
+      rw all (stores refl (λ i n. before base count (held w cells) .free i (rw all n)) (adds (answers tt) base count low (rw all at room)))
 
   run-law : (base count : ℕ) → expected w ≤ base → base + count ≤ bound w → let o = storeRun w cells base count in RangeInsertion w cells base count o × Keeps o
   run-law base count low near = by (tooFew w cells (beforeHeld base count (held w cells))) refl
@@ -141,18 +141,14 @@ module _ (w : SlidingWindow) (cells : List ℕ) (h : wellFormed w cells ≡ true
       by false q =
           let k = beforeHeld base count (held w cells) in
           let room = ltb-false (length cells) (w .count + k) q in
-          let within = before-within base count (held w cells) in
+          let within = before base count (held w cells) .within in
           let keeps = stored-keeps w cells wf base count low (omega arith) room in
           (range-stored base count low room (ltb k count) refl, well-formed-is (grown w k) (storedCells w cells base k) keeps)
 
   pub range-law : (base count : ℕ) → let o = insertRange w cells base count in RangeInsertion w cells base count o × Keeps o
-  unfolding insertRange
+  unfolding insertRange member numbers
   range-law base count = rw h (by (eqb count 0) refl)
     where
-      none-among : (n : ℕ) (t : Bool) → leb base n ≡ t → member n (held w cells) ≡ (t && ltb n (base + 0) || member n (held w cells))
-      none-among n true q = let l = leb-true base n q in rw (le-ltb n (base + 0) (omega arith))
-      none-among n false q = refl
-
       past : Checked (rangeChecks w base count) (refused w cells) (storeRun w cells base count) → (count ≡ 0 → ⊥) →
           let o = checks (rangeChecks w base count) (refused w cells) (storeRun w cells base count) in
           RangeInsertion w cells base count o × Keeps o
@@ -170,7 +166,7 @@ module _ (w : SlidingWindow) (cells : List ℕ) (h : wellFormed w cells ≡ true
       by true q =
           let z = eqb-true count 0 q in
           let adds-none : Adds w cells (answers tt, w, cells) base count =
-          record { same = refl; above = λ l. absurd (omega arith); long = refl; members = λ n. rw z (none-among n (leb base n) refl) } in
+          record { same = refl; above = λ l. absurd (omega arith); long = refl; members = λ n. rw (z, ← member-numbers n base 0) } in
           (stores refl (λ i l. absurd (omega arith)) adds-none, h)
       by false q = past (checked (refused w cells) (storeRun w cells base count) (rangeChecks w base count)) (eqb-false count 0 q)
 
@@ -205,9 +201,9 @@ module _ (w : SlidingWindow) (cells : List ℕ) (h : wellFormed w cells ≡ true
           let d = eqb-false k 0 q in
           let z : e + k - 1 + 1 ≡ e + k = omega arith in (
             run (e + k - 1) k refl (omega arith) z (sym z)
-                (λ n l m. run-held e n (held w cells) l (omega arith))
+                (λ n l m. run-held (bound w) e (held w cells) (wf .rises) n l (omega arith))
                 (rw z (run-ends (bound w) e (held w cells) (wf .rises)))
-                (λ n. rw z (ap (member n) (held-consumed w cells wf k) ∙ run-dropped (bound w) e n (held w cells) (wf .rises))),
+                (λ n. rw z (ap (member n) (held-consumed w cells wf k) ∙ run-dropped (bound w) e (held w cells) (wf .rises) n)),
             well-formed-is (advanced w k) (consumedCells w cells k) (consumed-keeps w cells wf),
           )
 

@@ -7,14 +7,14 @@ use mathlib.Core.List.{List, [], _∷_, _++_, append-assoc}
 use native.Mathlib.Omega.{arith}
 use lib.ListN.{length, take, drop, getD, replicate, length-append, length-drop, length-replicate, take-append-drop}
 use lib.Seq.{length-take-le, take-at}
-use lib.Dec.{ltb, eqb}
-use borrow.Author.Tests.{ltb-true, ltb-false, eqb-true}
+use lib.Dec.{ltb}
+use borrow.Author.Tests.{ltb-true}
 use Rattle.lists.proofs.Order.{either}
 use Rattle.window.specs.declared.SlidingWindow.{SlidingWindow}
 use Rattle.window.specs.Window.{expected, held, place, numbers, stored, storedCells, grown, beforeHeld, runLength, consumedCells, advanced}
 use Rattle.window.proofs.Rises.{Rises, bound, WellFormed, is-member, place-from}
 use Rattle.window.proofs.Loops.{length-numbers}
-use Rattle.window.proofs.Members.{before-free}
+use Rattle.window.proofs.Members.{before, run}
 
 module _ (hi : ℕ) where
   rises-numbers : (lo b k : ℕ) (ys : List ℕ) → lo ≤ b → b + k ≤ hi → Rises (b + k) hi ys → Rises lo hi (numbers b k ++ ys)
@@ -37,22 +37,10 @@ module _ (hi : ℕ) where
       by true q ih f = (r .0, r .1, ih (ltb-true x b q) (λ p. f (suc-le-suc p)))
       by false q ih f = rises-numbers lo b k (x ∷ xs) l h (f (suc-le-suc zero-le), r .1, r .2)
 
-  rises-dropped : (e : ℕ) (xs : List ℕ) → Rises e hi xs → Rises (e + runLength e xs) hi (drop (runLength e xs) xs)
-  unfolding runLength
-  rises-dropped e [] r = tt
-  rises-dropped e (x ∷ xs) r = by (eqb x e) refl (rises-dropped (suc e) xs)
-    where
-      by : (t : Bool) → eqb x e ≡ t → (Rises (suc e) hi xs → Rises (suc e + runLength (suc e) xs) hi (drop (runLength (suc e) xs) xs)) →
-          let k = cond t (suc (runLength (suc e) xs)) zero in
-          Rises (e + k) hi (drop k (x ∷ xs))
-      by true q ih =
-          let z : e + suc (runLength (suc e) xs) ≡ suc e + runLength (suc e) xs = omega arith in
-          rw z (ih (rw (eqb-true x e q) at (r .2)))
-      by false q ih = (omega arith, r .1, r .2)
-
-  rises-wider : (lo top : ℕ) (xs : List ℕ) → hi ≤ top → Rises lo hi xs → Rises lo top xs
-  rises-wider lo top [] h r = tt
-  rises-wider lo top (x ∷ xs) h r = (r .0, omega arith, rises-wider (suc x) top xs h (r .2))
+-- numbers that rise in narrower bounds rise in wider ones
+rises-wider : (lo hi from top : ℕ) (xs : List ℕ) → from ≤ lo → hi ≤ top → Rises lo hi xs → Rises from top xs
+rises-wider lo hi from top [] l h r = tt
+rises-wider lo hi from top (x ∷ xs) l h r = (omega arith, omega arith, rises-wider (suc x) hi (suc x) top xs (omega arith) h (r .2))
 
 -- the numbers before the first held one stand below the one at their place
 before-below : (b k : ℕ) (xs : List ℕ) → place b xs < length xs → b + beforeHeld b k xs ≤ getD xs (place b xs) 0
@@ -60,16 +48,7 @@ before-below b k xs h =
     let y = getD xs (place b xs) 0 in
     let from = place-from b xs h in
     either (b + beforeHeld b k xs) y (λ l. l)
-    (λ l. let z : b + (y - b) ≡ y = omega arith in absurd (true≢false (sym (is-member y (place b xs) xs h refl) ∙ rw z at (before-free b k (y - b) xs (omega arith)))))
-
-run-within : (e : ℕ) (xs : List ℕ) → runLength e xs ≤ length xs
-unfolding runLength
-run-within e [] = zero-le
-run-within e (x ∷ xs) = by (eqb x e) (run-within (suc e) xs)
-  where
-    by : (t : Bool) → runLength (suc e) xs ≤ length xs → cond t (suc (runLength (suc e) xs)) zero ≤ suc (length xs)
-    by true h = suc-le-suc h
-    by false h = zero-le
+    (λ l. let z : b + (y - b) ≡ y = omega arith in absurd (true≢false (sym (is-member y (place b xs) xs h refl) ∙ rw z at (before b k xs .free (y - b) (omega arith)))))
 
 -- the numbers held afterwards: those in front of the cells that stay
 length-stored : (b k : ℕ) (xs : List ℕ) → length (stored b k xs) ≡ length xs + k
@@ -106,15 +85,17 @@ module _ (w : SlidingWindow) (cells : List ℕ) (h : WellFormed w cells) where
 
   pub length-consumed-cells : length (consumedCells w cells (runLength (expected w) (held w cells))) ≡ length cells
   length-consumed-cells =
-      let l = run-within (expected w) (held w cells) in
+      let k = runLength (expected w) (held w cells) in
+      let all = ap length (run (bound w) (expected w) (held w cells) (h .rises) .is) ∙ length-append (numbers (expected w) k) (drop k (held w cells)) in
       let f = h .fits in
-      simp (length-append, length-drop, length-replicate, length-held) (omega (arith, length-held))
+      simp (length-append, length-drop, length-replicate, length-held) (omega (arith, length-held, length-numbers (expected w) k))
 
   pub consumed-keeps : let k = runLength (expected w) (held w cells) in WellFormed (advanced w k) (consumedCells w cells k)
   consumed-keeps =
       let e = expected w in
       let k = runLength e (held w cells) in
+      let above = run (bound w) e (held w cells) (h .rises) .above in
       record {
         fits = rw length-consumed-cells (omega arith);
-        rises = rw (held-consumed k) (rises-wider (bound w) (e + k) (bound (advanced w k)) (drop k (held w cells)) (omega arith) (rises-dropped (bound w) e (held w cells) (h .rises)));
+        rises = rw (held-consumed k) (rises-wider (suc (e + k)) (bound w) (e + k) (bound (advanced w k)) (drop k (held w cells)) (omega arith) (omega arith) above);
       }

@@ -1,25 +1,27 @@
 -- A turn of each loop of src/lib.rt, as a law of the definition that the loop computes.
 -- Assumes nothing.
-use Prim.Native.Nat.{ℕ, zero, suc, _+_, _-_, _≤_, _<_, zero-le}
+use Prim.Native.Nat.{ℕ, zero, suc, _+_, _-_, _≤_, _<_}
 use mathlib.Core.Path.{_≡_, refl, sym, ap, _∙_}
 use mathlib.Core.Bool.{Bool, true, false, cond, _&&_, and-self, and-true, and-false}
 use mathlib.Core.List.{List, [], _∷_, _++_, append-assoc, append-nil}
 use native.Mathlib.Nat.{le-of-suc-le-suc, not-suc-le-zero}
 use native.Mathlib.Numerals.{add-one}
 use native.Mathlib.Omega.{arith}
-use lib.ListN.{length, take, drop, getD, set, replicate, length-drop, length-replicate, take-append-drop}
-use lib.Seq.{paste, length-take-le, getD-take, take-take, take-length, drop-drop, paste-suc, take-paste, drop-paste, slice-empty, slice-cons}
+use lib.ListN.{length, take, drop, getD, set, replicate, length-append, length-drop, length-replicate, take-append-drop}
+use lib.Seq.{paste, length-take-le, getD-take, take-take, take-length, paste-suc, slice-empty, slice-cons}
 use lib.Dec.{ltb, eqb}
-use borrow.Author.Tests.{lt-ltb, le-ltb, ltb-true, eqb-true}
+use borrow.Author.Tests.{lt-ltb, le-ltb, ltb-true}
 use Rattle.refusal.specs.Said.{answers, refuses, refusalIn, checks}
-use Rattle.lists.specs.Numbers.{largest}
 use Rattle.lists.proofs.Tests.{both}
 use Rattle.lists.proofs.Rising.{first-last}
+use Rattle.lists.proofs.Paste.{length-part, paste-all, paste-behind}
+use Rattle.lists.proofs.Taken.{paste-taken}
 use Rattle.lists.proofs.Shift.{drop-take, take-before-paste, drop-at-paste}
 use Rattle.window.specs.declared.SlidingWindow.{SlidingWindow}
-use Rattle.window.specs.Window.{Outcome, refused, expected, held, tooFew, wellFormed, member, rising, holdable, allHoldable, place, numbers, stored}
+use Rattle.window.specs.Window.{Outcome, refused, expected, held, tooFew, member, rising, holdable, allHoldable, place, numbers, stored}
 use Rattle.window.specs.Window.{storedCells, grown, beforeHeld, storeBefore, storeRun, runLength}
-use Rattle.window.proofs.Rises.{Rises, bound, WellFormed, well-formed, is-holdable, holdable-is, is-member, not-before, place-from}
+use Rattle.window.proofs.Rises.{bound, WellFormed, is-holdable, holdable-is, is-member, not-before, place-from}
+use Rattle.window.proofs.Members.{before-is}
 
 -- `well_formed`: rising numbers may all be held where the first and the last may
 between : (w : SlidingWindow) (x y z : ℕ) → x ≤ y → y ≤ z → holdable w x ≡ true → holdable w z ≡ true → holdable w y ≡ true
@@ -67,18 +69,7 @@ place-back n i cells h k l =
     let q : suc (i - 1) ≡ i = omega arith in
     rw q at (place-suc n (i - 1) cells (omega arith) l)
 
--- `first_held`: how many numbers stand before the first held one, told by that one ..
-pub before-is : (b k count : ℕ) (xs : List ℕ) → k ≤ count → ((i : ℕ) → i < k → member (b + i) xs ≡ false) → (k < count → member (b + k) xs ≡ true) → beforeHeld b count xs ≡ k
-unfolding beforeHeld
-before-is b k zero xs l f m = omega arith
-before-is b zero (suc c) xs l f m = let z : b + 0 ≡ b = omega arith in rw (rw z at (m (omega arith)))
-before-is b (suc k) (suc c) xs l f m =
-    let z : b + 0 ≡ b = omega arith in
-    let up : (i : ℕ) → b + suc i ≡ suc b + i = λ i. omega arith in
-    rw (rw z at (f 0 (omega arith)))
-    (ap suc (before-is (suc b) k c xs (le-of-suc-le-suc l) (λ i h. rw (up i) at (f (suc i) (omega arith))) (λ h. rw (up k) at (m (omega arith)))))
-
--- .. which stands in the cell at base's place, if there is one
+-- `first_held`: the first held number stands in the cell at base's place, if there is one
 pub place-cell : (b count at : ℕ) (cells : List ℕ) → count ≤ length cells → at ≡ place b (take count cells) → at < count → b ≤ getD cells at 0
 place-cell b count at cells k q h =
     let l : place b (take count cells) < length (take count cells) = rw (length-take-le count cells k, ← q) h in
@@ -88,10 +79,12 @@ pub before-cell : (w : SlidingWindow) (cells : List ℕ) (b range at i : ℕ) �
     → (at < w .count → b + i ≤ getD cells at 0) → (i < range → (at < w .count) × (getD cells at 0 ≡ b + i)) → i ≡ beforeHeld b range (held w cells)
 before-cell w cells b range at i wf q l f m =
     let long = length-take-le (w .count) cells (wf .fits) in
-    sym (before-is b i range (held w cells) l
-    (λ j h. not-before (bound w) (expected w) b (b + j) (held w cells) (wf .rises) (omega arith)
-    (λ p. let u : at < w .count = rw (long, ← q) at p in rw (← q, getD-take (w .count) cells at 0 u) (let g = f u in omega arith)))
-    (λ h. let u = m h in is-member (b + i) at (held w cells) (rw long (u .0)) (getD-take (w .count) cells at 0 (u .0) ∙ u .1)))
+    sym (before-is b range i (held w cells) record {
+      within = l;
+      free = λ j h. not-before (bound w) (expected w) b (b + j) (held w cells) (wf .rises) (omega arith)
+          (λ p. let u : at < w .count = rw (long, ← q) at p in rw (← q, getD-take (w .count) cells at 0 u) (let g = f u in omega arith));
+      held = λ h. let u = m h in is-member (b + i) at (held w cells) (rw long (u .0)) (getD-take (w .count) cells at 0 (u .0) ∙ u .1);
+    })
 
 -- `run_length`
 pub run-at : (e : ℕ) (cells : List ℕ) (count i : ℕ) → i < count → count ≤ length cells
@@ -102,23 +95,6 @@ run-at e cells count i h k = rw (add-one i, slice-cons i count cells 0 h k, add-
 pub run-end : (e : ℕ) (cells : List ℕ) (count : ℕ) → runLength e (drop count (take count cells)) ≡ 0
 unfolding runLength
 run-end e cells count = rw (slice-empty count cells)
-
--- .. after which there is a number of 64 bits
-run-below : (lo hi m : ℕ) (xs : List ℕ) → Rises lo hi xs → m ≤ hi → m + runLength m xs ≤ hi
-unfolding runLength
-run-below lo hi m [] r h = omega arith
-run-below lo hi m (x ∷ xs) r h = by (run-below (suc x) hi (suc m) xs (r .2)) (eqb x m) refl
-  where
-    by : (suc m ≤ hi → suc m + runLength (suc m) xs ≤ hi) → (t : Bool) → eqb x m ≡ t → m + cond t (suc (runLength (suc m) xs)) zero ≤ hi
-    by ih true t =
-        let q = eqb-true x m t in
-        let l : suc m ≤ hi = omega arith in
-        omega (arith, ih l)
-    by ih false t = omega arith
-
-pub run-fits : (w : SlidingWindow) (cells : List ℕ) → wellFormed w cells ≡ true → expected w ≤ largest
-    → expected w + runLength (expected w) (held w cells) ≤ largest
-run-fits w cells h l = let k = run-below (expected w) (bound w) (expected w) (held w cells) (well-formed w cells h .rises) (omega arith) in omega arith
 
 -- `fill`
 pub length-numbers : (b k : ℕ) → length (numbers b k) ≡ k
@@ -189,16 +165,12 @@ pub consumed-is : (cells shifted left : List ℕ) (k count : ℕ) → k ≤ coun
     → shifted ≡ paste cells 0 (drop k cells) (count - k) → left ≡ paste shifted (count - k) (replicate k 0) k
     → left ≡ drop k (take count cells) ++ replicate k 0 ++ drop count cells
 consumed-is cells shifted left k count h l s t =
-    let rest = paste cells 0 (drop k cells) (count - k) in
-    let room : count - k ≤ length (drop k cells) = rw length-drop (omega arith) in
-    let o : 0 + (count - k) ≡ count - k = omega arith in
-    let e : count - k + k ≡ count = omega arith in
+    let rest = take (count - k) (drop k cells) in
     let zeros : List ℕ = replicate k 0 in
-    let all : take k zeros ≡ zeros = rw (length-replicate {A = ℕ} k 0) at (take-length zeros) in
-    let front : take (count - k) rest ≡ take (count - k) (drop k cells) =
-    ap (λ (n : ℕ). take n rest) (sym o) ∙ take-paste cells 0 (drop k cells) (count - k) zero-le room in
-    let back : drop (count - k) rest ≡ drop (count - k) cells =
-    ap (λ (n : ℕ). drop n rest) (sym o) ∙ drop-paste cells 0 (drop k cells) (count - k) zero-le room ∙ ap (λ (n : ℕ). drop n cells) o in
-    let behind : drop count rest ≡ drop count cells =
-    rw e at (sym (drop-drop k (count - k) rest) ∙ ap (drop k) back ∙ drop-drop k (count - k) cells) in
-    rw (t, s, e, front, all, behind, drop-take k count cells)
+    let long : length rest ≡ count - k = length-part cells k (count - k) (omega arith) in
+    let blank : length zeros ≡ k = length-replicate {A = ℕ} k 0 in
+    let all : 0 + length (rest ++ zeros) ≡ count = rw (length-append, long, blank) (omega arith) in
+    let moved : shifted ≡ paste cells 0 rest (length rest) = s ∙ paste-taken cells 0 (drop k cells) (count - k) (rw length-drop (omega arith)) in
+    rw (t, moved)
+    (ap (paste (paste cells 0 rest (length rest)) (count - k) zeros) (sym blank) ∙ paste-behind cells rest zeros 0 (count - k) (omega arith) (omega arith)
+    ∙ paste-all cells 0 (rest ++ zeros) ∙ rw (all, drop-take k count cells))

@@ -2,13 +2,14 @@
 -- Assumes nothing.
 use Prim.Native.Nat.{ℕ, zero, suc, _+_, _≤_, _<_}
 use mathlib.Core.Path.{_≡_, refl, sym, ap, _∙_}
-use mathlib.Core.Bool.{Bool, true, false, cond, _&&_, _||_, or-assoc, or-comm}
+use mathlib.Core.Bool.{Bool, true, false, cond, _&&_, _||_, or-assoc, or-comm, true≢false}
 use mathlib.Core.List.{List, [], _∷_, _++_}
 use native.Mathlib.Nat.{le-of-suc-le-suc, not-suc-le-zero}
 use native.Mathlib.Omega.{arith}
 use lib.ListN.{take, drop, take-append-drop}
 use lib.Dec.{ltb, leb, eqb}
-use borrow.Author.Tests.{lt-ltb, le-ltb, le-leb, lt-leb, ne-eqb, leb-true, leb-false, eqb-true, eqb-false}
+use borrow.Author.Tests.{lt-ltb, le-ltb, le-leb, lt-leb, leb-true, leb-false, eqb-true, eqb-false}
+use Rattle.lists.proofs.Order.{either}
 use Rattle.window.specs.Window.{member, place, numbers, stored, beforeHeld, runLength}
 use Rattle.window.proofs.Rises.{Rises, not-below}
 
@@ -55,100 +56,86 @@ member-stored n b k xs =
     turn : (p q r : Bool) → (p || q || r) ≡ (q || (p || r))
     turn p q r = rw (or-comm p q) (or-assoc q p r)
 
--- no number before the first held one is held, and where there is one it is
-pub before-free : (b k i : ℕ) (xs : List ℕ) → i < beforeHeld b k xs → member (b + i) xs ≡ false
-unfolding beforeHeld
-before-free b zero i xs h = absurd (not-suc-le-zero h)
-before-free b (suc k) i xs h = by (member b xs) refl (λ j. before-free (suc b) k j xs) i h
-  where
-    by : (t : Bool) → member b xs ≡ t → ((j : ℕ) → j < beforeHeld (suc b) k xs → member (suc b + j) xs ≡ false)
-        → (i : ℕ) → i < cond t zero (suc (beforeHeld (suc b) k xs)) → member (b + i) xs ≡ false
-    by true q ih i h = absurd (not-suc-le-zero h)
-    by false q ih zero h = let z : b + 0 ≡ b = omega arith in rw z q
-    by false q ih (suc j) h = let z : b + suc j ≡ suc b + j = omega arith in rw z (ih j (le-of-suc-le-suc h))
+-- r of the k numbers from b on stand before the first held one: none of them is held, and where there is one more it is
+pub record Before (b k : ℕ) (xs : List ℕ) (r : ℕ) : Type 0 where
+  pub within : r ≤ k
+  pub free : (i : ℕ) → i < r → member (b + i) xs ≡ false
+  pub held : r < k → member (b + r) xs ≡ true
 
-pub before-within : (b k : ℕ) (xs : List ℕ) → beforeHeld b k xs ≤ k
+pub before : (b k : ℕ) (xs : List ℕ) → Before b k xs (beforeHeld b k xs)
 unfolding beforeHeld
-before-within b zero xs = omega arith
-before-within b (suc k) xs = by (member b xs) (before-within (suc b) k xs)
+before b zero xs = record { within = omega arith; free = λ i h. absurd (not-suc-le-zero h); held = λ h. absurd (not-suc-le-zero h) }
+before b (suc k) xs = by (member b xs) refl (before (suc b) k xs)
   where
-    by : (t : Bool) → beforeHeld (suc b) k xs ≤ k → cond t zero (suc (beforeHeld (suc b) k xs)) ≤ suc k
-    by true h = omega arith
-    by false h = omega arith
+    z : b + 0 ≡ b
+    z = omega arith
 
-pub before-held : (b k : ℕ) (xs : List ℕ) → beforeHeld b k xs < k → member (b + beforeHeld b k xs) xs ≡ true
-unfolding beforeHeld
-before-held b zero xs h = absurd (not-suc-le-zero h)
-before-held b (suc k) xs h = by (member b xs) refl (before-held (suc b) k xs) h
-  where
-    by : (t : Bool) → member b xs ≡ t → (beforeHeld (suc b) k xs < k → member (suc b + beforeHeld (suc b) k xs) xs ≡ true)
-        → cond t zero (suc (beforeHeld (suc b) k xs)) < suc k → member (b + cond t zero (suc (beforeHeld (suc b) k xs))) xs ≡ true
-    by true q ih h = let z : b + 0 ≡ b = omega arith in rw z q
-    by false q ih h = let z : b + suc (beforeHeld (suc b) k xs) ≡ suc b + beforeHeld (suc b) k xs = omega arith in rw z (ih (le-of-suc-le-suc h))
+    up : (i : ℕ) → b + suc i ≡ suc b + i
+    up i = omega arith
 
--- every number of the run is held ..
-pub run-held : (e n : ℕ) (xs : List ℕ) → e ≤ n → n < e + runLength e xs → member n xs ≡ true
-unfolding member runLength
-run-held e n [] l h = absurd (omega arith)
-run-held e n (x ∷ xs) l h = by (eqb x e) refl (run-held (suc e) n xs) h
-  where
-    by : (t : Bool) → eqb x e ≡ t → (suc e ≤ n → n < suc e + runLength (suc e) xs → member n xs ≡ true)
-        → n < e + cond t (suc (runLength (suc e) xs)) zero → (eqb x n || member n xs) ≡ true
-    by true q ih h = at (eqb x n) refl
+    by : (t : Bool) → member b xs ≡ t → Before (suc b) k xs (beforeHeld (suc b) k xs) → Before b (suc k) xs (cond t zero (suc (beforeHeld (suc b) k xs)))
+    by true q ih = record { within = omega arith; free = λ i h. absurd (not-suc-le-zero h); held = λ h. rw z q }
+    by false q ih = record { within = omega (arith, ih .within); free = free; held = λ h. rw up (ih .held (le-of-suc-le-suc h)) }
       where
-        at : (t : Bool) → eqb x n ≡ t → (t || member n xs) ≡ true
-        at true p = refl
-        at false p =
-            let s = eqb-true x e q in
-            let d = eqb-false x n p in
-            ih (omega arith) (omega arith)
-    by false q ih h = absurd (omega arith)
+        free : (i : ℕ) → i < suc (beforeHeld (suc b) k xs) → member (b + i) xs ≡ false
+        free zero h = rw z q
+        free (suc i) h = rw up (ih .free i (le-of-suc-le-suc h))
+
+-- .. and no other number of them does
+pub before-is : (b k r : ℕ) (xs : List ℕ) → Before b k xs r → beforeHeld b k xs ≡ r
+before-is b k r xs f =
+    let n = beforeHeld b k xs in
+    let g = before b k xs in
+    either n r
+    (λ l. either r n (λ m. omega arith) (λ m. absurd (true≢false (sym (g .held (omega arith)) ∙ f .free n m))))
+    (λ l. absurd (true≢false (sym (f .held (omega arith)) ∙ g .free r l)))
+
+-- numbers that rise from e on: the k of the run, and numbers above the one that the run lacks
+pub record Run (hi e : ℕ) (xs : List ℕ) (k : ℕ) : Type 0 where
+  pub is : xs ≡ numbers e k ++ drop k xs
+  pub above : Rises (suc (e + k)) hi (drop k xs)
+  pub fits : e ≤ hi → e + k ≤ hi
 
 module _ (hi : ℕ) where
-  -- .. the one after it is not ..
-  pub run-ends : (e : ℕ) (xs : List ℕ) → Rises e hi xs → member (e + runLength e xs) xs ≡ false
-  unfolding member runLength
-  run-ends e [] r = refl
-  run-ends e (x ∷ xs) r = by (eqb x e) refl (run-ends (suc e) xs)
+  pub run : (e : ℕ) (xs : List ℕ) → Rises e hi xs → Run hi e xs (runLength e xs)
+  unfolding runLength numbers
+  run e [] r = record { is = refl; above = tt; fits = λ l. omega arith }
+  run e (x ∷ xs) r = by (eqb x e) refl (run (suc e) xs)
     where
-      by : (t : Bool) → eqb x e ≡ t → (Rises (suc e) hi xs → member (suc e + runLength (suc e) xs) xs ≡ false)
-          → let n = e + cond t (suc (runLength (suc e) xs)) zero in (eqb x n || member n xs) ≡ false
+      by : (t : Bool) → eqb x e ≡ t → (Rises (suc e) hi xs → Run hi (suc e) xs (runLength (suc e) xs)) → Run hi e (x ∷ xs) (cond t (suc (runLength (suc e) xs)) zero)
       by true q ih =
           let s = eqb-true x e q in
+          let rest = ih (rw s at (r .2)) in
           let z : e + suc (runLength (suc e) xs) ≡ suc e + runLength (suc e) xs = omega arith in
-          rw (z, ne-eqb x (suc e + runLength (suc e) xs) (λ p. omega arith)) (ih (rw s at (r .2)))
+          record { is = rw s (ap (λ (l : List ℕ). e ∷ l) (rest .is)); above = rw z (rest .above); fits = λ l. omega (arith, rest .fits (omega arith)) }
       by false q ih =
           let d = eqb-false x e q in
-          let z : e + 0 ≡ e = omega arith in
-          rw (z, q, not-below hi (suc x) e xs (r .2) (omega arith))
+          record { is = refl; above = (omega arith, r .1, r .2); fits = λ l. omega arith }
+
+module _ (hi e : ℕ) (xs : List ℕ) (r : Rises e hi xs) where
+  run-members : (n : ℕ) → member n xs ≡ (among e (runLength e xs) n || member n (drop (runLength e xs) xs))
+  run-members n =
+      let k = runLength e xs in
+      ap (member n) (run hi e xs r .is) ∙ member-append n (numbers e k) (drop k xs) ∙ rw (member-numbers n e k)
+
+  -- every number of the run is held ..
+  pub run-held : (n : ℕ) → e ≤ n → n < e + runLength e xs → member n xs ≡ true
+  run-held n l h = run-members n ∙ rw (le-leb e n l, lt-ltb n (e + runLength e xs) h)
+
+  -- .. the one after it is not ..
+  pub run-ends : member (e + runLength e xs) xs ≡ false
+  run-ends =
+      let n = e + runLength e xs in
+      run-members n ∙ rw (le-leb e n (omega arith), le-ltb n n (omega arith), not-below hi (suc n) n (drop (runLength e xs) xs) (run hi e xs r .above) (omega arith))
 
   -- .. and behind it stand exactly the held numbers from there on
-  pub run-dropped : (e n : ℕ) (xs : List ℕ) → Rises e hi xs → member n (drop (runLength e xs) xs) ≡ (leb (e + runLength e xs) n && member n xs)
-  unfolding member runLength
-  run-dropped e n [] r = by (leb (e + 0) n)
+  pub run-dropped : (n : ℕ) → member n (drop (runLength e xs) xs) ≡ (leb (e + runLength e xs) n && member n xs)
+  run-dropped n = by (leb (e + runLength e xs) n) refl
     where
-      by : (t : Bool) → false ≡ (t && false)
-      by true = refl
-      by false = refl
-  run-dropped e n (x ∷ xs) r = by (eqb x e) refl (run-dropped (suc e) n xs)
-    where
-      by : (t : Bool) → eqb x e ≡ t → (Rises (suc e) hi xs → member n (drop (runLength (suc e) xs) xs) ≡ (leb (suc e + runLength (suc e) xs) n && member n xs))
-          → let k = cond t (suc (runLength (suc e) xs)) zero in member n (drop k (x ∷ xs)) ≡ (leb (e + k) n && (eqb x n || member n xs))
-      by true q ih =
-          let s = eqb-true x e q in
-          let z : e + suc (runLength (suc e) xs) ≡ suc e + runLength (suc e) xs = omega arith in
-          rw z (ih (rw s at (r .2)) ∙ at (leb (suc e + runLength (suc e) xs) n) refl)
-        where
-          at : (t : Bool) → leb (suc e + runLength (suc e) xs) n ≡ t → (t && member n xs) ≡ (t && (eqb x n || member n xs))
-          at true p =
-              let s = eqb-true x e q in
-              let l = leb-true (suc e + runLength (suc e) xs) n p in
-              rw (ne-eqb x n (λ o. omega arith))
-          at false p = refl
-      by false q ih = let z : e + 0 ≡ e = omega arith in rw z (at (leb e n) refl)
-        where
-          at : (t : Bool) → leb e n ≡ t → (eqb x n || member n xs) ≡ (t && (eqb x n || member n xs))
-          at true p = refl
-          at false p =
-              let l = leb-false e n p in
-              rw (ne-eqb x n (λ o. omega arith), not-below hi (suc x) n xs (r .2) (omega arith))
+      by : (t : Bool) → leb (e + runLength e xs) n ≡ t → member n (drop (runLength e xs) xs) ≡ (t && member n xs)
+      by true q =
+          let l = leb-true (e + runLength e xs) n q in
+          sym (run-members n ∙ rw (le-leb e n (omega arith), le-ltb n (e + runLength e xs) l))
+      by false q =
+          let l = leb-false (e + runLength e xs) n q in
+          not-below hi (suc (e + runLength e xs)) n (drop (runLength e xs) xs) (run hi e xs r .above) (omega arith)

@@ -88,7 +88,10 @@ fn is_holdable(w: SlidingWindow, n: u64) -> bool
     if n - expected >= MAX_SLIDING_WINDOW_SIZE {
         return false;
     }
-    n < MAX_NUMBER
+    if n >= MAX_NUMBER {
+        return false;
+    }
+    true
 }
 
 // Four pairs of neighbours to a turn: the test of 12 is most of what a call costs, and this halves it.
@@ -132,7 +135,7 @@ fn is_rising_from(cells: &[u64], count: usize, from: usize) -> bool
 
 // Where n stands, or would stand. From the back, as acks come mostly in order.
 fn find_place(w: SlidingWindow, cells: &[u64], n: u64) -> usize
-    requires { ⌜ wellFormed w (now cells) ≡ true ⌝ }
+    requires { ⌜ (wellFormed w (now cells) ≡ true) × (w .count ≤ length (now cells)) ⌝ }
     ensures { λ r. ⌜ (r ≡ place n (held w (now (cells .entry)))) × (r ≤ w .count) ⌝ }
 {
     let mut i = w.count;
@@ -148,7 +151,7 @@ fn find_place(w: SlidingWindow, cells: &[u64], n: u64) -> usize
 // How many of the range's numbers, from base on, stand before the first that is held; `at` is base's place.
 // As the numbers rise, the first held one can stand nowhere but there.
 fn first_held(w: SlidingWindow, cells: &[u64], at: usize, base: u64, range: usize) -> usize
-    requires { ⌜ (wellFormed w (now cells) ≡ true) × (at ≡ place base (held w (now cells))) × (0 < range) × (base + range ≤ largest) ⌝ }
+    requires { ⌜ (wellFormed w (now cells) ≡ true) × (w .count ≤ length (now cells)) × (at ≡ place base (held w (now cells))) × (0 < range) × (base + range ≤ largest) ⌝ }
     ensures { λ r. ⌜ (r ≡ beforeHeld base range (held w (now (cells .entry)))) × (r ≤ range) ⌝ }
 {
     let count = w.count;
@@ -219,7 +222,7 @@ fn store_run(w: SlidingWindow, cells: &mut [u64], base: u64, range: usize) -> Ra
 
 // How many numbers are held in an unbroken run from the smallest expected on.
 fn run_length(w: SlidingWindow, cells: &[u64]) -> usize
-    requires { ⌜ wellFormed w (now cells) ≡ true ⌝ }
+    requires { ⌜ (wellFormed w (now cells) ≡ true) × (w .count ≤ length (now cells)) ⌝ }
     ensures { λ r. ⌜ (r ≡ runLength (expected w) (held w (now (cells .entry)))) × (r ≤ w .count) ⌝ }
 {
     let expected = w.smallest_expected;

@@ -20,26 +20,12 @@ abbrev μ-loop : tie.MeasureT-loop
 loop-holds : tie.Need-loop-holds Inv-loop μ-loop
 loop-holds c = (omega arith, refl)
 
-mul-if1 : tie.Need-mul-if1 Inv-loop μ-loop
-mul-if1 c =
-    let l = c .before in
-    let a = l .before .args in
-    let wf = well-formed (a .w) (a .cells .now) (l .before .pre) in
-    search needs
-
-shared-slice-read-if1 : tie.Need-shared-slice-read-if1 Inv-loop μ-loop
-shared-slice-read-if1 c =
-    let l = c .before .before in
-    let a = l .before .args in
-    let wf = well-formed (a .w) (a .cells .now) (l .before .pre) in
-    search needs
-
 returns : tie.Need-returns Inv-loop μ-loop
 returns c =
     let l = c .before .before .before in
     let a = l .before .args in
     let i = l .loop .i in
-    let wf = well-formed (a .w) (a .cells .now) (l .before .pre) in
+    let wf = well-formed (a .w) (a .cells .now) (l .before .pre .0) in
     let q : suc (i - 1) ≡ i = omega arith in
     let behind = place-behind (bound (a .w)) (expected (a .w)) (a .n) (a .w .count) (i - 1) (a .cells .now) (wf .rises) (omega arith) (wf .fits) (omega arith) in
     (sym (l .loop .inv .1 ∙ rw q at behind), omega arith)
@@ -48,7 +34,6 @@ loop-again : tie.Need-loop-again Inv-loop μ-loop
 loop-again c =
     let l = c .before .before .before in
     let a = l .before .args in
-    let wf = well-formed (a .w) (a .cells .now) (l .before .pre) in
     (omega arith, l .loop .inv .1 ∙ place-back (a .n) (l .loop .i) (a .cells .now) (omega arith) (omega arith) (omega arith))
 
 returns-2 : tie.Need-returns-2 Inv-loop μ-loop
@@ -67,8 +52,8 @@ find-place-spec =
     μ-loop
     loop-holds
     (λ c. search needs)
-    mul-if1
-    shared-slice-read-if1
+    (λ c. search needs)
+    (λ c. search needs)
     returns
     (λ c. search needs)
     (λ c. search needs)

@@ -6,7 +6,7 @@ use mathlib.Core.Path.{_≡_}
 use native.Mathlib.Omega.{arith}
 use lib.ListN.{getD}
 use borrow.Author.Needs.{needs}
-use Rattle.window.proofs.Rises.{WellFormed, well-formed}
+use Rattle.window.proofs.Rises.{well-formed}
 use Rattle.window.proofs.Loops.{place-cell, before-cell}
 use Rattle.window.proofs.first_held.Statement.{statement}
 use Rattle.window.proofs.first_held.Tie as tie
@@ -16,9 +16,6 @@ Inv-loop cells at base range count i₀ i = (i < range) × (at < count → base 
 
 abbrev μ-loop : tie.MeasureT-loop
 μ-loop cells at base range count i₀ i = range - i
-
-wf : (c : tie.Start Inv-loop μ-loop) → WellFormed (c .args .w) (c .args .cells .now)
-wf c = well-formed (c .args .w) (c .args .cells .now) (c .pre .0)
 
 -- past the test base + i is not held either
 past : (c : tie.Joined1 Inv-loop μ-loop) →
@@ -33,13 +30,7 @@ past c h =
 loop-holds : tie.Need-loop-holds Inv-loop μ-loop
 loop-holds c =
     let a = c .args in
-    (omega arith, λ h. omega (arith, place-cell (a .base) (a .w .count) (a .at) (a .cells .now) (wf c .fits) (c .pre .1) h))
-
-mul-if2 : tie.Need-mul-if2 Inv-loop μ-loop
-mul-if2 c = let f = wf (c .before .before) in search needs
-
-shared-slice-read-if2 : tie.Need-shared-slice-read-if2 Inv-loop μ-loop
-shared-slice-read-if2 c = let f = wf (c .before .before .before) in search needs
+    (omega arith, λ h. omega (arith, place-cell (a .base) (a .w .count) (a .at) (a .cells .now) (c .pre .1) (c .pre .2) h))
 
 loop-again : tie.Need-loop-again Inv-loop μ-loop
 loop-again c = (omega arith, past (c .before))
@@ -49,14 +40,14 @@ returns c =
     let l = c .before .before .before in
     let start = l .before in
     let a = start .args in
-    let found = before-cell (a .w) (a .cells .now) (a .base) (a .range) (a .at) (l .loop .i) (wf start) (start .pre .1) in
+    let found = before-cell (a .w) (a .cells .now) (a .base) (a .range) (a .at) (l .loop .i) (well-formed _ _ (start .pre .0)) (start .pre .2) in
     (found (omega arith) (l .loop .inv .1) (λ h. (c .before .before .if1 .taken, c .if2 .taken)), omega arith)
 
 returns-2 : tie.Need-returns-2 Inv-loop μ-loop
 returns-2 c =
     let start = c .before .before .before in
     let a = start .args in
-    let none = before-cell (a .w) (a .cells .now) (a .base) (a .range) (a .at) (a .range) (wf start) (start .pre .1) in
+    let none = before-cell (a .w) (a .cells .now) (a .base) (a .range) (a .at) (a .range) (well-formed _ _ (start .pre .0)) (start .pre .2) in
     (none (omega arith) (λ h. omega (arith, past (c .before) h)) (λ h. absurd (omega arith)), omega arith)
 
 pub first-held-spec : {M : Type 1} → statement M
@@ -66,8 +57,8 @@ first-held-spec =
     Inv-loop
     μ-loop
     loop-holds
-    mul-if2
-    shared-slice-read-if2
+    (λ c. search needs)
+    (λ c. search needs)
     (λ c. search needs)
     (λ c. search needs)
     (λ c. search needs)

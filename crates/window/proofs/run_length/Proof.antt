@@ -21,46 +21,29 @@ abbrev μ-loop : tie.MeasureT-loop
 loop-holds : tie.Need-loop-holds Inv-loop μ-loop
 loop-holds c = let z : c .args .w .«smallest_expected» + 0 ≡ c .args .w .«smallest_expected» = omega arith in (omega arith, rw z (omega arith))
 
-mul-if1 : tie.Need-mul-if1 Inv-loop μ-loop
-mul-if1 c =
-    let l = c .before in
-    let a = l .before .args in
-    let wf = well-formed (a .w) (a .cells .now) (l .before .pre) in
-    search needs
-
-shared-slice-read-if1 : tie.Need-shared-slice-read-if1 Inv-loop μ-loop
-shared-slice-read-if1 c =
-    let l = c .before .before in
-    let a = l .before .args in
-    let wf = well-formed (a .w) (a .cells .now) (l .before .pre) in
-    search needs
-
 add-if1 : tie.Need-add-if1 Inv-loop μ-loop
 add-if1 c =
     let l = c .before .before in
     let a = l .before .args in
-    let wf = well-formed (a .w) (a .cells .now) (l .before .pre) in
-    let at = rises-at (bound (a .w)) (expected (a .w)) (a .w .count) (l .loop .i) (a .cells .now) (wf .rises) (omega arith) (wf .fits) in
-    omega arith
+    let wf = well-formed (a .w) (a .cells .now) (l .before .pre .0) in
+    omega (arith, rises-at (bound (a .w)) (expected (a .w)) (a .w .count) (l .loop .i) (a .cells .now) (wf .rises) (omega arith) (wf .fits))
 
 returns : tie.Need-returns Inv-loop μ-loop
 returns c =
     let l = c .before .before .before in
     let a = l .before .args in
-    let wf = well-formed (a .w) (a .cells .now) (l .before .pre) in
-    let turn = run-at (expected (a .w) + l .loop .i) (a .cells .now) (a .w .count) (l .loop .i) (omega arith) (wf .fits) in
-    (sym (l .loop .inv .1 ∙ rw (turn, ne-eqb _ _ (c .if1 .taken)) (omega arith)), omega arith)
+    let next = run-at (expected (a .w) + l .loop .i) (a .cells .now) (a .w .count) (l .loop .i) (omega arith) (omega arith) in
+    (sym (l .loop .inv .1 ∙ rw (next, ne-eqb _ _ (c .if1 .taken)) (omega arith)), omega arith)
 
 loop-again : tie.Need-loop-again Inv-loop μ-loop
 loop-again c =
     let l = c .before .before .before in
     let a = l .before .args in
-    let wf = well-formed (a .w) (a .cells .now) (l .before .pre) in
     let i = l .loop .i in
-    let turn = run-at (expected (a .w) + i) (a .cells .now) (a .w .count) i (omega arith) (wf .fits) in
+    let next = run-at (expected (a .w) + i) (a .cells .now) (a .w .count) i (omega arith) (omega arith) in
     let z : expected (a .w) + i + 1 ≡ expected (a .w) + (i + 1) = omega arith in
     let q : getD (a .cells .now) i 0 ≡ expected (a .w) + i = omega arith in
-    (omega arith, l .loop .inv .1 ∙ rw (turn, eq-eqb _ _ q, z) (omega arith))
+    (omega arith, l .loop .inv .1 ∙ rw (next, eq-eqb _ _ q, z) (omega arith))
 
 returns-2 : tie.Need-returns-2 Inv-loop μ-loop
 returns-2 c =
@@ -77,8 +60,8 @@ run-length-spec =
     Inv-loop
     μ-loop
     loop-holds
-    mul-if1
-    shared-slice-read-if1
+    (λ c. search needs)
+    (λ c. search needs)
     add-if1
     returns
     (λ c. search needs)

@@ -57,12 +57,12 @@ left c =
     (p .ensures .0) (p .ensures .1) (room (roomy c)) (s .ensures) (f .ensures)
 
 find-place-requires : tie.Need-find-place-requires
-find-place-requires c κs = c .before .before .pre .0
+find-place-requires c κs = let s = c .before .before in (s .pre .0, well-formed _ _ (s .pre .0) .fits)
 
 first-held-requires : tie.Need-first-held-requires
 first-held-requires c κs =
     let s = c .before .before .before .before in
-    (s .pre .0, c .before .find-place .ensures .0, s .pre .1, s .pre .2)
+    (s .pre .0, well-formed _ _ (s .pre .0) .fits, c .before .find-place .ensures .0, s .pre .1, s .pre .2)
 
 returns : tie.Need-returns
 returns c =
@@ -87,8 +87,8 @@ shift-up-requires c κs = (placed (c .before .before .before) .find-place .ensur
 
 fill-requires : tie.Need-fill-requires
 fill-requires c κs =
-    let r = c .before .before .before .before .before in
-    let m = room r in
+    let s = c .before .before .before in
+    let m = room (s .before .before) in
     search needs
 
 returns-3 : tie.Need-returns-3
