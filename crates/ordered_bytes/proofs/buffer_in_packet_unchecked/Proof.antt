@@ -75,15 +75,6 @@ store-in-requires c κs =
     let slot = short .before .before .before .before .wrap-index .ensures in
     rw slot (omega (arith, g .shape .small-width), below, omega (arith, below, g .shape .lengths-n), omega (arith, store-long g, slot-ends g below, short .if5 .left))
 
-same-length : tie.Need-same-length
-same-length c = search needs
-
-same-length-2 : tie.Need-same-length-2
-same-length-2 c = search needs
-
-same-length-3 : tie.Need-same-length-3
-same-length-3 c = search needs
-
 returns-6 : tie.Need-returns-6
 returns-6 c =
     let put = c .before .before .before .before .before .before in
@@ -107,7 +98,7 @@ buffer-in-packet-unchecked-spec =
     returns-4
     returns-5
     store-in-requires
-    same-length
-    same-length-2
-    same-length-3
+    (λ c. search needs)
+    (λ c. search needs)
+    (λ c. search needs)
     returns-6)

@@ -11,18 +11,6 @@ start c = c .before .before .before .before .before .before .before .before
 abbrev entry : tie.Start → Buffer
 entry s = bufferOf (s .args .o) (s .args .marks .now) (s .args .lengths .now) (s .args .store .now)
 
-well-formed-requires : tie.Need-well-formed-requires
-well-formed-requires c κs = search needs
-
-same-length : tie.Need-same-length
-same-length c = search needs
-
-same-length-2 : tie.Need-same-length-2
-same-length-2 c = search needs
-
-same-length-3 : tie.Need-same-length-3
-same-length-3 c = search needs
-
 returns : tie.Need-returns
 returns c = let s = start (c .before) in consuming-malformed (entry s) (c .before .well-formed .ensures) (c .if1 .taken) (s .args .len) (s .args .buf .now)
 
@@ -31,18 +19,6 @@ consume-unchecked-requires c κs =
     let past = c .before .before .before .before in
     tested-well (entry (start (past .before))) (past .before .well-formed .ensures) (past .if1 .left)
 
-same-length-4 : tie.Need-same-length-4
-same-length-4 c = search needs
-
-same-length-5 : tie.Need-same-length-5
-same-length-5 c = search needs
-
-same-length-6 : tie.Need-same-length-6
-same-length-6 c = search needs
-
-same-length-7 : tie.Need-same-length-7
-same-length-7 c = search needs
-
 returns-2 : tie.Need-returns-2
 returns-2 c = c .before .before .before .before .before .before .before .before .consume-unchecked .ensures
 
@@ -50,14 +26,14 @@ pub consume-spec : {M : Type 1} → statement M
 consume-spec =
     tie.close
     (tie.spec
-    well-formed-requires
-    same-length
-    same-length-2
-    same-length-3
+    (λ c κs. search needs)
+    (λ c. search needs)
+    (λ c. search needs)
+    (λ c. search needs)
     returns
     consume-unchecked-requires
-    same-length-4
-    same-length-5
-    same-length-6
-    same-length-7
+    (λ c. search needs)
+    (λ c. search needs)
+    (λ c. search needs)
+    (λ c. search needs)
     returns-2)

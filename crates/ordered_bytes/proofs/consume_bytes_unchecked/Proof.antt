@@ -19,18 +19,6 @@ start c = c .before .before .before .before .before .before .before .before .bef
 abbrev entry : tie.Start → Buffer
 entry s = bufferOf (s .args .o) (s .args .marks .now) (s .args .lengths .now) (s .args .store .now)
 
-count-pieces-requires : tie.Need-count-pieces-requires
-count-pieces-requires c κs = search needs
-
-consume-bytes-answer-requires : tie.Need-consume-bytes-answer-requires
-consume-bytes-answer-requires c κs = search needs
-
-enum-told : tie.Need-enum-told
-enum-told c = search needs
-
-enum-told-2 : tie.Need-enum-told-2
-enum-told-2 c = search needs
-
 copy-pieces-requires : tie.Need-copy-pieces-requires
 copy-pieces-requires c κs =
     let told = c .before .before .before .before .before in
@@ -52,36 +40,12 @@ take-packets-requires c κs =
       (omega (arith, payloads-most k (view (entry s) .held) .1, length-held (entry s)), omega (arith, payloads-fit (good (s .pre)) k (omega (arith, s .good))), zero-le, zero-le),
     )
 
-same-length : tie.Need-same-length
-same-length c = search needs
-
-same-length-2 : tie.Need-same-length-2
-same-length-2 c = search needs
-
-same-length-3 : tie.Need-same-length-3
-same-length-3 c = search needs
-
 returns : tie.Need-returns
 returns c =
     let answered = c .before .before in
     let s = start (answered .before) in
     let e = answered .before .count-pieces .ensures in
     pieces-refused (entry s) (s .args .limit) (s .args .buf .now) (s .args .list .now) (s .pre) e (ap consumedBytesSays (c .enum-told .given .1)) (answered .consume-bytes-answer .ensures)
-
-same-length-4 : tie.Need-same-length-4
-same-length-4 c = search needs
-
-same-length-5 : tie.Need-same-length-5
-same-length-5 c = search needs
-
-same-length-6 : tie.Need-same-length-6
-same-length-6 c = search needs
-
-same-length-7 : tie.Need-same-length-7
-same-length-7 c = search needs
-
-same-length-8 : tie.Need-same-length-8
-same-length-8 c = search needs
 
 returns-2 : tie.Need-returns-2
 returns-2 c =
@@ -98,19 +62,19 @@ pub consume-bytes-unchecked-spec : {M : Type 1} → statement M
 consume-bytes-unchecked-spec =
     tie.close
     (tie.spec
-    count-pieces-requires
-    consume-bytes-answer-requires
-    enum-told
-    enum-told-2
+    (λ c κs. search needs)
+    (λ c κs. search needs)
+    (λ c. search needs)
+    (λ c. search needs)
     copy-pieces-requires
     take-packets-requires
-    same-length
-    same-length-2
-    same-length-3
+    (λ c. search needs)
+    (λ c. search needs)
+    (λ c. search needs)
     returns
-    same-length-4
-    same-length-5
-    same-length-6
-    same-length-7
-    same-length-8
+    (λ c. search needs)
+    (λ c. search needs)
+    (λ c. search needs)
+    (λ c. search needs)
+    (λ c. search needs)
     returns-2)

@@ -26,9 +26,6 @@ returns : tie.Need-returns
 unfolding consuming
 returns c = let s = c .before .before .before .before .before in simp (s .pre, lt-ltb _ _ (c .if1 .taken))
 
-read-bytes-requires : tie.Need-read-bytes-requires
-read-bytes-requires c κs = search needs
-
 take-packets-requires : tie.Need-take-packets-requires
 take-packets-requires c κs =
     let read = c .before .before .before .before .before in
@@ -37,21 +34,6 @@ take-packets-requires c κs =
     let fits = consume-fits (facts s) (s .args .len) .0 in
     let numbers = consumed-fits (facts s) (s .args .len) (omega (arith, s .good)) in
     (s .pre, (omega (arith, e .packets), omega (arith, e .packets), e .carry .within, e .carry .small))
-
-consume-answer-requires : tie.Need-consume-answer-requires
-consume-answer-requires c κs = search needs
-
-same-length : tie.Need-same-length
-same-length c = search needs
-
-same-length-2 : tie.Need-same-length-2
-same-length-2 c = search needs
-
-same-length-3 : tie.Need-same-length-3
-same-length-3 c = search needs
-
-same-length-4 : tie.Need-same-length-4
-same-length-4 c = search needs
 
 returns-2 : tie.Need-returns-2
 unfolding consuming
@@ -67,11 +49,11 @@ consume-unchecked-spec =
     tie.close
     (tie.spec
     returns
-    read-bytes-requires
+    (λ c κs. search needs)
     take-packets-requires
-    consume-answer-requires
-    same-length
-    same-length-2
-    same-length-3
-    same-length-4
+    (λ c κs. search needs)
+    (λ c. search needs)
+    (λ c. search needs)
+    (λ c. search needs)
+    (λ c. search needs)
     returns-2)

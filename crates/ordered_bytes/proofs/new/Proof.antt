@@ -6,27 +6,9 @@ use Rattle.ordered_bytes.specs.Calls.{creating}
 use Rattle.ordered_bytes.proofs.new.Statement.{statement}
 use Rattle.ordered_bytes.proofs.new.Tie as tie
 
-shape-fits-requires : tie.Need-shape-fits-requires
-shape-fits-requires c κs = search needs
-
-same-length : tie.Need-same-length
-same-length c = search needs
-
-same-length-2 : tie.Need-same-length-2
-same-length-2 c = search needs
-
 returns : tie.Need-returns
 unfolding creating
 returns c = simp (sym (c .before .shape-fits .ensures) ∙ not-true _ (c .if1 .taken))
-
-clear-slots-requires : tie.Need-clear-slots-requires
-clear-slots-requires c κs = search needs
-
-same-length-3 : tie.Need-same-length-3
-same-length-3 c = search needs
-
-same-length-4 : tie.Need-same-length-4
-same-length-4 c = search needs
 
 returns-2 : tie.Need-returns-2
 unfolding creating
@@ -39,11 +21,11 @@ pub new-spec : {M : Type 1} → statement M
 new-spec =
     tie.close
     (tie.spec
-    shape-fits-requires
-    same-length
-    same-length-2
+    (λ c κs. search needs)
+    (λ c. search needs)
+    (λ c. search needs)
     returns
-    clear-slots-requires
-    same-length-3
-    same-length-4
+    (λ c κs. search needs)
+    (λ c. search needs)
+    (λ c. search needs)
     returns-2)

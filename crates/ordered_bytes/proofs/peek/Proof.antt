@@ -6,9 +6,6 @@ use Rattle.ordered_bytes.specs.Calls.{peeking}
 use Rattle.ordered_bytes.proofs.peek.Statement.{statement}
 use Rattle.ordered_bytes.proofs.peek.Tie as tie
 
-well-formed-requires : tie.Need-well-formed-requires
-well-formed-requires c κs = search needs
-
 returns : tie.Need-returns
 unfolding peeking
 returns c = simp (sym (c .before .well-formed .ensures) ∙ not-true _ (c .if1 .taken))
@@ -16,8 +13,5 @@ returns c = simp (sym (c .before .well-formed .ensures) ∙ not-true _ (c .if1 .
 peek-unchecked-requires : tie.Need-peek-unchecked-requires
 peek-unchecked-requires c κs = sym (c .before .well-formed .ensures) ∙ not-false _ (c .if1 .left)
 
-returns-2 : tie.Need-returns-2
-returns-2 c = search needs
-
 pub peek-spec : {M : Type 1} → statement M
-peek-spec = tie.close (tie.spec well-formed-requires returns peek-unchecked-requires returns-2)
+peek-spec = tie.close (tie.spec (λ c κs. search needs) returns peek-unchecked-requires (λ c. search needs))

@@ -16,9 +16,6 @@ entry c = let k = c .before .before .before .before .before .args in bufferOf (k
 tested : (c : tie.Else1) → wellFormed (entry c) ≡ true
 tested c = sym (c .before .well-formed .ensures) ∙ not-false _ (c .if1 .left)
 
-well-formed-requires : tie.Need-well-formed-requires
-well-formed-requires c κs = search needs
-
 returns : tie.Need-returns
 unfolding starting
 returns c = simp (sym (c .before .well-formed .ensures) ∙ not-true _ (c .if1 .taken))
@@ -39,4 +36,4 @@ returns-3 c =
     simp (tested past, any-by-marks (entry past) ∙ sym (c .before .held-from .ensures) ∙ c .if2 .left)
 
 pub set-start-packet-number-spec : {M : Type 1} → statement M
-set-start-packet-number-spec = tie.close (tie.spec well-formed-requires returns held-from-requires returns-2 returns-3)
+set-start-packet-number-spec = tie.close (tie.spec (λ c κs. search needs) returns held-from-requires returns-2 returns-3)

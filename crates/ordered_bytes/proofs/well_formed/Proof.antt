@@ -22,9 +22,6 @@ facts c = shaped _ _ _ _ (shape c)
 lengths : (c : tie.Else4) → let k = start (c .before .before .before .before .before .before) .args in allWithin (k .o .«slot_width») (k .lengths .now) ≡ true
 lengths c = sym (c .before .lengths-within .ensures) ∙ not-false _ (c .if4 .left)
 
-shape-fits-requires : tie.Need-shape-fits-requires
-shape-fits-requires c κs = search needs
-
 returns : tie.Need-returns
 unfolding wellFormed
 returns c = simp (sym (c .before .shape-fits .ensures) ∙ not-true _ (c .if1 .taken))
@@ -39,9 +36,6 @@ returns-3 c = simp (shape (c .before .before .before .before), lt-ltb _ _ (c .be
 
 cast-lengths-within : tie.Need-cast-lengths-within
 cast-lengths-within c = fits-le (facts (c .before .before .before .before) .small-width) (fits-lit tt)
-
-lengths-within-requires : tie.Need-lengths-within-requires
-lengths-within-requires c κs = search needs
 
 returns-4 : tie.Need-returns-4
 unfolding wellFormed
@@ -66,12 +60,12 @@ pub well-formed-spec : {M : Type 1} → statement M
 well-formed-spec =
     tie.close
     (tie.spec
-    shape-fits-requires
+    (λ c κs. search needs)
     returns
     returns-2
     returns-3
     cast-lengths-within
-    lengths-within-requires
+    (λ c κs. search needs)
     returns-4
     held-numbers-fit-requires
     returns-5)

@@ -12,32 +12,8 @@ Inv-loop sum bytes start count after₀ at₀ left₀ after at left = left ≤ c
 abbrev μ-loop : tie.MeasureT-loop
 μ-loop sum bytes start count after₀ at₀ left₀ after at left = left
 
-loop-holds : tie.Need-loop-holds Inv-loop μ-loop
-loop-holds c = search needs
-
-shared-slice-read-add-byte : tie.Need-shared-slice-read-add-byte Inv-loop μ-loop
-shared-slice-read-add-byte c = search needs
-
-add-byte-requires : tie.Need-add-byte-requires Inv-loop μ-loop
-add-byte-requires c κs = search needs
-
 add-at : tie.Need-add-at Inv-loop μ-loop
 add-at c = omega (arith, ltb-true)
-
-sub-left : tie.Need-sub-left Inv-loop μ-loop
-sub-left c = search needs
-
-loop-less : tie.Need-loop-less Inv-loop μ-loop
-loop-less c = search needs
-
-loop-again : tie.Need-loop-again Inv-loop μ-loop
-loop-again c = search needs
-
-returns : tie.Need-returns Inv-loop μ-loop
-returns c = search needs
-
-returns-2 : tie.Need-returns-2 Inv-loop μ-loop
-returns-2 c = search needs
 
 pub add-part-spec : {M : Type 1} → statement M
 add-part-spec =
@@ -45,12 +21,12 @@ add-part-spec =
     (tie.spec
     Inv-loop
     μ-loop
-    loop-holds
-    shared-slice-read-add-byte
-    add-byte-requires
+    (λ c. search needs)
+    (λ c. search needs)
+    (λ c κs. search needs)
     add-at
-    sub-left
-    loop-less
-    loop-again
-    returns
-    returns-2)
+    (λ c. search needs)
+    (λ c. search needs)
+    (λ c. search needs)
+    (λ c. search needs)
+    (λ c. search needs))

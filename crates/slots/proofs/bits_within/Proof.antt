@@ -21,21 +21,6 @@ abbrev μ-loop : tie.MeasureT-loop
 loop-holds : tie.Need-loop-holds Inv-loop μ-loop
 loop-holds c = (λ _. rw add-zero, omega arith)
 
-add-bits : tie.Need-add-bits Inv-loop μ-loop
-add-bits c = search needs
-
-mul-bits : tie.Need-mul-bits Inv-loop μ-loop
-mul-bits c = search needs
-
-shared-slice-read-bits : tie.Need-shared-slice-read-bits Inv-loop μ-loop
-shared-slice-read-bits c = search needs
-
-add-i : tie.Need-add-i Inv-loop μ-loop
-add-i c = search needs
-
-loop-less : tie.Need-loop-less Inv-loop μ-loop
-loop-less c = search needs
-
 loop-again : tie.Need-loop-again Inv-loop μ-loop
 loop-again c =
     let at = c .before .before in
@@ -60,10 +45,10 @@ bits-within-spec =
     Inv-loop
     μ-loop
     loop-holds
-    add-bits
-    mul-bits
-    shared-slice-read-bits
-    add-i
-    loop-less
+    (λ c. search needs)
+    (λ c. search needs)
+    (λ c. search needs)
+    (λ c. search needs)
+    (λ c. search needs)
     loop-again
     returns)

@@ -19,30 +19,15 @@ abbrev μ-loop : tie.MeasureT-loop
 loop-holds : tie.Need-loop-holds Inv-loop μ-loop
 loop-holds c = (refl, omega arith)
 
-sub-loop : tie.Need-sub-loop Inv-loop μ-loop
-sub-loop c = search needs
-
-block-within-requires : tie.Need-block-within-requires Inv-loop μ-loop
-block-within-requires c κs = search needs
-
 returns : tie.Need-returns Inv-loop μ-loop
 returns c =
     let block = c .before .block-within in
     rw (not-true (block .result) (c .if1 .taken)) at (block .ensures) ∙ c .before .before .before .loop .inv .0
 
-add-i : tie.Need-add-i Inv-loop μ-loop
-add-i c = search needs
-
-loop-less : tie.Need-loop-less Inv-loop μ-loop
-loop-less c = search needs
-
 loop-again : tie.Need-loop-again Inv-loop μ-loop
 loop-again c =
     let block = c .before .block-within in
     (rw (not-false (block .result) (c .if1 .left)) at (block .ensures) ∙ c .before .before .before .loop .inv .0, omega arith)
-
-rest-within-requires : tie.Need-rest-within-requires Inv-loop μ-loop
-rest-within-requires c κs = search needs
 
 returns-2 : tie.Need-returns-2 Inv-loop μ-loop
 returns-2 c = c .rest-within .ensures ∙ c .before .before .loop .inv .0
@@ -54,11 +39,11 @@ blocks-within-spec =
     Inv-loop
     μ-loop
     loop-holds
-    sub-loop
-    block-within-requires
+    (λ c. search needs)
+    (λ c κs. search needs)
     returns
-    add-i
-    loop-less
+    (λ c. search needs)
+    (λ c. search needs)
     loop-again
-    rest-within-requires
+    (λ c κs. search needs)
     returns-2)

@@ -19,31 +19,13 @@ abbrev μ-loop : tie.MeasureT-loop
 loop-holds : tie.Need-loop-holds Inv-loop μ-loop
 loop-holds c = (refl, omega arith)
 
-sub-loop : tie.Need-sub-loop Inv-loop μ-loop
-sub-loop c = search needs
-
-bits-within-requires : tie.Need-bits-within-requires Inv-loop μ-loop
-bits-within-requires c κs = search needs
-
-blocks-within-requires : tie.Need-blocks-within-requires Inv-loop μ-loop
-blocks-within-requires c κs = search needs
-
 returns : tie.Need-returns Inv-loop μ-loop
 returns c = c .blocks-within .ensures ∙ c .before .before .before .before .loop .inv .0
-
-add-i : tie.Need-add-i Inv-loop μ-loop
-add-i c = search needs
-
-loop-less : tie.Need-loop-less Inv-loop μ-loop
-loop-less c = search needs
 
 loop-again : tie.Need-loop-again Inv-loop μ-loop
 loop-again c =
     let bits = c .before .bits-within in
     (bits .ensures (not-false (bits .result) (c .if1 .left)) ∙ c .before .before .before .loop .inv .0, omega arith)
-
-rest-within-requires : tie.Need-rest-within-requires Inv-loop μ-loop
-rest-within-requires c κs = search needs
 
 returns-2 : tie.Need-returns-2 Inv-loop μ-loop
 returns-2 c = c .rest-within .ensures ∙ c .before .before .loop .inv .0
@@ -55,12 +37,12 @@ lengths-within-spec =
     Inv-loop
     μ-loop
     loop-holds
-    sub-loop
-    bits-within-requires
-    blocks-within-requires
+    (λ c. search needs)
+    (λ c κs. search needs)
+    (λ c κs. search needs)
     returns
-    add-i
-    loop-less
+    (λ c. search needs)
+    (λ c. search needs)
     loop-again
-    rest-within-requires
+    (λ c κs. search needs)
     returns-2)

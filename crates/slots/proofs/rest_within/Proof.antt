@@ -21,15 +21,6 @@ abbrev μ-loop : tie.MeasureT-loop
 loop-holds : tie.Need-loop-holds Inv-loop μ-loop
 loop-holds c = (refl, omega arith)
 
-mul-if1 : tie.Need-mul-if1 Inv-loop μ-loop
-mul-if1 c = search needs
-
-shared-slice-read-if1 : tie.Need-shared-slice-read-if1 Inv-loop μ-loop
-shared-slice-read-if1 c = search needs
-
-add-i : tie.Need-add-i Inv-loop μ-loop
-add-i c = search needs
-
 loop-less : tie.Need-loop-less Inv-loop μ-loop
 loop-less c = omega (arith, c .before .before .loop-test .taken)
 
@@ -58,9 +49,9 @@ rest-within-spec =
     Inv-loop
     μ-loop
     loop-holds
-    mul-if1
-    shared-slice-read-if1
-    add-i
+    (λ c. search needs)
+    (λ c. search needs)
+    (λ c. search needs)
     loop-less
     loop-again
     returns)

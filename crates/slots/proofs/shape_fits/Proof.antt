@@ -23,9 +23,6 @@ returns-4 c =
     let past = c .before in
     simp (le-leb _ _ (past .before .before .if1 .left), le-leb _ _ (past .before .if2 .left), le-leb _ _ (past .if3 .left), lt-leb _ _ (c .if4 .taken))
 
-add-result : tie.Need-add-result
-add-result c = search needs
-
 mul-result : tie.Need-mul-result
 mul-result c =
     let past = c .before in
@@ -43,4 +40,4 @@ returns-6 c =
     simp (le-leb _ _ (past .before .before .before .if1 .left), le-leb _ _ (past .before .before .if2 .left), le-leb _ _ (past .before .if3 .left), le-leb _ _ (past .if4 .left), ne-eqb _ _ (c .if5 .left))
 
 pub shape-fits-spec : {M : Type 1} → statement M
-shape-fits-spec = tie.close (tie.spec returns returns-2 returns-3 returns-4 add-result mul-result returns-5 returns-6)
+shape-fits-spec = tie.close (tie.spec returns returns-2 returns-3 returns-4 (λ c. search needs) mul-result returns-5 returns-6)

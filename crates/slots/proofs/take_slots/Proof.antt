@@ -19,27 +19,6 @@ Inv-loop first count marks₀ lengths₀ n slot₀ left₀ marks lengths slot le
 abbrev μ-loop : tie.MeasureT-loop
 μ-loop first count marks₀ lengths₀ n slot₀ left₀ marks lengths slot left = left
 
-loop-holds : tie.Need-loop-holds Inv-loop μ-loop
-loop-holds c = search needs
-
-slice-write-marks : tie.Need-slice-write-marks Inv-loop μ-loop
-slice-write-marks c = search needs
-
-mul-lengths : tie.Need-mul-lengths Inv-loop μ-loop
-mul-lengths c = search needs
-
-slice-write-lengths : tie.Need-slice-write-lengths Inv-loop μ-loop
-slice-write-lengths c = search needs
-
-wrap-index-requires : tie.Need-wrap-index-requires Inv-loop μ-loop
-wrap-index-requires c κs = search needs
-
-sub-left : tie.Need-sub-left Inv-loop μ-loop
-sub-left c = search needs
-
-loop-less : tie.Need-loop-less Inv-loop μ-loop
-loop-less c = search needs
-
 loop-again : tie.Need-loop-again Inv-loop μ-loop
 loop-again c =
     let at = c .before .before in
@@ -48,12 +27,6 @@ loop-again c =
     let next : c .wrap-index .result ≡ wrap n (at .loop .slot + 1) = c .wrap-index .ensures in
     let left : at .loop .left ≡ suc (at .loop .left - 1) = omega arith in
     (rw next (wrap-below (inv .0) (omega arith)), simp length-set (inv .1), simp length-set (inv .2), rw next (rw left at (inv .3)), rw next (rw left at (inv .4)))
-
-same-length : tie.Need-same-length Inv-loop μ-loop
-same-length c = search needs
-
-same-length-2 : tie.Need-same-length-2 Inv-loop μ-loop
-same-length-2 c = search needs
 
 returns : tie.Need-returns Inv-loop μ-loop
 returns c =
@@ -67,14 +40,14 @@ take-slots-spec =
     (tie.spec
     Inv-loop
     μ-loop
-    loop-holds
-    slice-write-marks
-    mul-lengths
-    slice-write-lengths
-    wrap-index-requires
-    sub-left
-    loop-less
+    (λ c. search needs)
+    (λ c. search needs)
+    (λ c. search needs)
+    (λ c. search needs)
+    (λ c κs. search needs)
+    (λ c. search needs)
+    (λ c. search needs)
     loop-again
-    same-length
-    same-length-2
+    (λ c. search needs)
+    (λ c. search needs)
     returns)

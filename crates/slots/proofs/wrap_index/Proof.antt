@@ -4,9 +4,6 @@ use borrow.Author.Tests.{lt-ltb, le-ltb}
 use Rattle.slots.proofs.wrap_index.Statement.{statement}
 use Rattle.slots.proofs.wrap_index.Tie as tie
 
-add-raw : tie.Need-add-raw
-add-raw c = search needs
-
 returns : tie.Need-returns
 returns c = simp (lt-ltb _ _ (c .if1 .taken))
 
@@ -14,4 +11,4 @@ returns-2 : tie.Need-returns-2
 returns-2 c = simp (le-ltb _ _ (c .if1 .left))
 
 pub wrap-index-spec : {M : Type 1} → statement M
-wrap-index-spec = tie.close (tie.spec add-raw returns returns-2)
+wrap-index-spec = tie.close (tie.spec (λ c. search needs) returns returns-2)

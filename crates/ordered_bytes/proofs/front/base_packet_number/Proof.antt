@@ -6,9 +6,6 @@ use Rattle.ordered_bytes.proofs.Places.{base-at}
 use Rattle.ordered_bytes.proofs.front.base_packet_number.Statement.{statement}
 use Rattle.ordered_bytes.proofs.front.base_packet_number.Tie as tie
 
-shared-slice-read-if1 : tie.Need-shared-slice-read-if1
-shared-slice-read-if1 c = search needs
-
 returns : tie.Need-returns
 returns c = let s = c .before .before in rw (base-at (bufferOf (s .args .o) (s .args .marks .now) [] []) (s .pre), c .if1 .taken)
 
@@ -16,4 +13,4 @@ returns-2 : tie.Need-returns-2
 returns-2 c = let s = c .before .before in rw (base-at (bufferOf (s .args .o) (s .args .marks .now) [] []) (s .pre), c .if1 .left)
 
 pub base-packet-number-spec : {M : Type 1} → statement M
-base-packet-number-spec = tie.close (tie.spec shared-slice-read-if1 returns returns-2)
+base-packet-number-spec = tie.close (tie.spec (λ c. search needs) returns returns-2)

@@ -35,18 +35,6 @@ wrap-index-requires c κs =
     let g = facts s in
     (g .shape .few-slots, g .front-n, s .pre .1 .0)
 
-add-t20 : tie.Need-add-t20
-add-t20 c = search needs
-
-same-length : tie.Need-same-length
-same-length c = search needs
-
-same-length-2 : tie.Need-same-length-2
-same-length-2 c = search needs
-
-same-length-3 : tie.Need-same-length-3
-same-length-3 c = search needs
-
 returns : tie.Need-returns
 returns c =
     let next = c .before in
@@ -64,8 +52,8 @@ take-packets-spec =
     move-part-requires
     take-slots-requires
     wrap-index-requires
-    add-t20
-    same-length
-    same-length-2
-    same-length-3
+    (λ c. search needs)
+    (λ c. search needs)
+    (λ c. search needs)
+    (λ c. search needs)
     returns)

@@ -45,12 +45,6 @@ copy-payloads-requires c κs =
     let s = put .before .before .before .before .before .before .before .before .before .before .before .before in
     (s .pre .0, record { bytes = omega (arith, behind s .bytes); cells = omega (arith, put .put-carry-length .ensures .0, behind s .cells) })
 
-same-length : tie.Need-same-length
-same-length c = search needs
-
-same-length-2 : tie.Need-same-length-2
-same-length-2 c = search needs
-
 returns : tie.Need-returns
 returns c =
     let last = c .before .before .before .before in
@@ -75,6 +69,6 @@ copy-pieces-spec =
     copy-part-requires
     put-carry-length-requires
     copy-payloads-requires
-    same-length
-    same-length-2
+    (λ c. search needs)
+    (λ c. search needs)
     returns)

@@ -18,15 +18,6 @@ entry s = bufferOf (s .args .o) (s .args .marks .now) (s .args .lengths .now) (s
 facts : (s : tie.Start) → Good (entry s)
 facts s = good (s .pre)
 
-carry-pieces-requires : tie.Need-carry-pieces-requires
-carry-pieces-requires c κs = search needs
-
-saturating-sub-requires : tie.Need-saturating-sub-requires
-saturating-sub-requires c κs = search needs
-
-count-payloads-requires : tie.Need-count-payloads-requires
-count-payloads-requires c κs = search needs
-
 add-t8 : tie.Need-add-t8
 add-t8 c =
     let counted = c .before in
@@ -57,9 +48,9 @@ pub count-pieces-spec : {M : Type 1} → statement M
 count-pieces-spec =
     tie.close
     (tie.spec
-    carry-pieces-requires
-    saturating-sub-requires
-    count-payloads-requires
+    (λ c κs. search needs)
+    (λ c κs. search needs)
+    (λ c κs. search needs)
     add-t8
     add-t9
     base-packet-number-requires

@@ -8,17 +8,11 @@ use Rattle.ordered_bytes.proofs.pieces.put_carry_length.Tie as tie
 returns : tie.Need-returns
 returns c = simp (eq-eqb _ _ (c .if1 .taken)) (refl, refl)
 
-cast-list : tie.Need-cast-list
-cast-list c = search needs
-
 slice-write-list : tie.Need-slice-write-list
 slice-write-list c = simp (ne-eqb _ _ (c .if1 .left)) at (c .before .pre .1)
-
-same-length : tie.Need-same-length
-same-length c = search needs
 
 returns-2 : tie.Need-returns-2
 returns-2 c = simp (ne-eqb _ _ (c .if1 .left)) (refl, refl)
 
 pub put-carry-length-spec : {M : Type 1} → statement M
-put-carry-length-spec = tie.close (tie.spec returns cast-list slice-write-list same-length returns-2)
+put-carry-length-spec = tie.close (tie.spec returns (λ c. search needs) slice-write-list (λ c. search needs) returns-2)

@@ -21,9 +21,6 @@ abbrev μ-loop : tie.MeasureT-loop
 loop-holds : tie.Need-loop-holds Inv-loop μ-loop
 loop-holds c = refl
 
-wrap-index-requires : tie.Need-wrap-index-requires Inv-loop μ-loop
-wrap-index-requires c κs = search needs
-
 shared-slice-read-if1 : tie.Need-shared-slice-read-if1 Inv-loop μ-loop
 shared-slice-read-if1 c =
     let start = c .before .before .before .before .before in
@@ -44,12 +41,6 @@ returns c =
     let k = at .before .before .args in
     sym (rw (marks-alone (k .o) (k .marks .now)) (sym (at .loop .inv) ∙ turn (c .before) ∙ rw (c .if1 .taken)))
 
-add-d : tie.Need-add-d Inv-loop μ-loop
-add-d c = search needs
-
-loop-less : tie.Need-loop-less Inv-loop μ-loop
-loop-less c = search needs
-
 loop-again : tie.Need-loop-again Inv-loop μ-loop
 loop-again c =
     let at = c .before .before .before .before in
@@ -62,4 +53,4 @@ returns-2 c =
     sym (rw (marks-alone (k .o) (k .marks .now)) (sym (at .loop .inv) ∙ marked-ends (k .o .«front_slot») (at .loop .d) (k .marks .now) (c .loop-test .left)))
 
 pub held-from-spec : {M : Type 1} → statement M
-held-from-spec = tie.close (tie.spec Inv-loop μ-loop loop-holds wrap-index-requires shared-slice-read-if1 returns add-d loop-less loop-again returns-2)
+held-from-spec = tie.close (tie.spec Inv-loop μ-loop loop-holds (λ c κs. search needs) shared-slice-read-if1 returns (λ c. search needs) (λ c. search needs) loop-again returns-2)

@@ -8,16 +8,10 @@ use Rattle.ordered_bytes.proofs.Tests.{fit-late}
 use Rattle.ordered_bytes.proofs.state.held_numbers_fit.Statement.{statement}
 use Rattle.ordered_bytes.proofs.state.held_numbers_fit.Tie as tie
 
-sub-held-from : tie.Need-sub-held-from
-sub-held-from c = search needs
-
-held-from-requires : tie.Need-held-from-requires
-held-from-requires c κs = search needs
-
 returns : tie.Need-returns
 returns c =
     let k = c .before .before .before .args in
     ap not (c .held-from .ensures) ∙ sym (fit-late (k .o .«front_number») (view (bufferOf (k .o) (k .marks .now) [] []) .held))
 
 pub held-numbers-fit-spec : {M : Type 1} → statement M
-held-numbers-fit-spec = tie.close (tie.spec sub-held-from held-from-requires returns)
+held-numbers-fit-spec = tie.close (tie.spec (λ c. search needs) (λ c κs. search needs) returns)

@@ -23,9 +23,6 @@ facts s = good (s .pre .0)
 mul-carry-at : tie.Need-mul-carry-at
 mul-carry-at c = let s = c .before .before .before .before .before in omega (arith, carry-in (facts s), s .good)
 
-smaller-requires : tie.Need-smaller-requires
-smaller-requires c κs = search needs
-
 copy-part-requires : tie.Need-copy-part-requires
 copy-part-requires c κs =
     let s = c .before .before .before .before .before .before .before in
@@ -36,20 +33,11 @@ copy-part-requires c κs =
 add-t15 : tie.Need-add-t15
 add-t15 c = let s = start (c .before .before .before) in omega (arith, carry-in (facts s), c .if1 .taken, s .good)
 
-sub-t16 : tie.Need-sub-t16
-sub-t16 c = search needs
-
-same-length : tie.Need-same-length
-same-length c = search needs
-
 returns : tie.Need-returns
 returns c =
     let copied = c .before .before .before in
     let s = start copied in
     part-read (facts s) (s .args .len) (s .args .buf .now) (c .if1 .taken) (copied .before .before .smaller .ensures) (copied .copy-part .ensures)
-
-walk-packets-requires : tie.Need-walk-packets-requires
-walk-packets-requires c κs = search needs
 
 base-packet-number-requires : tie.Need-base-packet-number-requires
 base-packet-number-requires c κs = facts (start (c .before .before .before .before .before .before .before)) .front-n
@@ -60,9 +48,6 @@ add-t10 c =
     let s = start (gave .before .before .before .before .before) in
     let few = walked (s .args .len - s .args .o .«carry_len») (view (entry s) .held) .gave in
     omega (arith, gave .walk-packets .ensures .bytes, gave .before .before .if1 .left, s .pre .1, s .good)
-
-same-length-2 : tie.Need-same-length-2
-same-length-2 c = search needs
 
 returns-2 : tie.Need-returns-2
 returns-2 c =
@@ -78,14 +63,14 @@ read-bytes-spec =
     tie.close
     (tie.spec
     mul-carry-at
-    smaller-requires
+    (λ c κs. search needs)
     copy-part-requires
     add-t15
-    sub-t16
-    same-length
+    (λ c. search needs)
+    (λ c. search needs)
     returns
-    walk-packets-requires
+    (λ c κs. search needs)
     base-packet-number-requires
     add-t10
-    same-length-2
+    (λ c. search needs)
     returns-2)

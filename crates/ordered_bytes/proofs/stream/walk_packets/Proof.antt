@@ -71,9 +71,6 @@ mul-start c =
 sub-smaller : tie.Need-sub-smaller Inv-loop μ-loop
 sub-smaller c = let room = room-left (c .before .before .before .before) in omega arith
 
-smaller-requires : tie.Need-smaller-requires Inv-loop μ-loop
-smaller-requires c κs = search needs
-
 add-copy-part : tie.Need-add-copy-part Inv-loop μ-loop
 add-copy-part c =
     let then₁ = c .before .before .before .before .before .before in
@@ -163,7 +160,7 @@ walk-packets-spec =
     cast-size
     mul-start
     sub-smaller
-    smaller-requires
+    (λ c κs. search needs)
     add-copy-part
     copy-part-requires
     add-given
