@@ -1,26 +1,16 @@
 -- `ordered_bytes::consume` meets its contract. Assumes nothing.
 use borrow.Author.Needs.{needs}
-use Rattle.ordered_bytes.specs.Buffer.{Buffer, bufferOf}
-use Rattle.ordered_bytes.proofs.Malformed.{tested-well, consuming-malformed}
+use Rattle.ordered_bytes.specs.Calls.{consuming}
+use Rattle.ordered_bytes.proofs.Malformed.{tested-ill, tested-well}
 use Rattle.ordered_bytes.proofs.consume.Statement.{statement}
 use Rattle.ordered_bytes.proofs.consume.Tie as tie
 
-abbrev start : tie.After-well-formed → tie.Start
-start c = c .before .before .before .before .before .before .before .before
-
-abbrev entry : tie.Start → Buffer
-entry s = bufferOf (s .args .o) (s .args .marks .now) (s .args .lengths .now) (s .args .store .now)
-
 returns : tie.Need-returns
-returns c = let s = start (c .before) in consuming-malformed (entry s) (c .before .well-formed .ensures) (c .if1 .taken) (s .args .len) (s .args .buf .now)
+unfolding consuming
+returns c = rw (tested-ill (c .before .well-formed .ensures) (c .if1 .taken))
 
 consume-unchecked-requires : tie.Need-consume-unchecked-requires
-consume-unchecked-requires c κs =
-    let past = c .before .before .before .before in
-    tested-well (entry (start (past .before))) (past .before .well-formed .ensures) (past .if1 .left)
-
-returns-2 : tie.Need-returns-2
-returns-2 c = c .before .before .before .before .before .before .before .before .consume-unchecked .ensures
+consume-unchecked-requires c κs = let past = c .before .before .before .before in tested-well (past .before .well-formed .ensures) (past .if1 .left)
 
 pub consume-spec : {M : Type 1} → statement M
 consume-spec =
@@ -36,4 +26,4 @@ consume-spec =
     (λ c. search needs)
     (λ c. search needs)
     (λ c. search needs)
-    returns-2)
+    (λ c. search needs))

@@ -2,11 +2,11 @@
 use mathlib.Core.Path.{_≡_, sym, _∙_}
 use mathlib.Core.Bool.{true}
 use borrow.Author.Needs.{needs}
-use borrow.Author.Tests.{not-true, not-false}
 use Rattle.ordered_bytes.specs.Buffer.{Buffer, bufferOf, wellFormed}
 use Rattle.ordered_bytes.specs.Calls.{starting}
 use Rattle.ordered_bytes.proofs.WellFormed.{good}
 use Rattle.ordered_bytes.proofs.Tests.{any-by-marks}
+use Rattle.ordered_bytes.proofs.Malformed.{tested-ill, tested-well}
 use Rattle.ordered_bytes.proofs.set_start_packet_number.Statement.{statement}
 use Rattle.ordered_bytes.proofs.set_start_packet_number.Tie as tie
 
@@ -14,11 +14,11 @@ abbrev entry : tie.Else1 → Buffer
 entry c = let k = c .before .before .before .before .before .args in bufferOf (k .o) (k .marks .now) (k .lengths .now) (k .store .now)
 
 tested : (c : tie.Else1) → wellFormed (entry c) ≡ true
-tested c = sym (c .before .well-formed .ensures) ∙ not-false _ (c .if1 .left)
+tested c = tested-well (c .before .well-formed .ensures) (c .if1 .left)
 
 returns : tie.Need-returns
 unfolding starting
-returns c = simp (sym (c .before .well-formed .ensures) ∙ not-true _ (c .if1 .taken))
+returns c = rw (tested-ill (c .before .well-formed .ensures) (c .if1 .taken))
 
 held-from-requires : tie.Need-held-from-requires
 held-from-requires c κs = let g = good (tested c) in (g .shape .few-slots, g .front-n)

@@ -3,10 +3,11 @@ use mathlib.Core.Path.{_≡_, sym, _∙_}
 use mathlib.Core.Bool.{true}
 use mir.Facts.{fits-le, fits-lit}
 use borrow.Author.Needs.{needs}
-use borrow.Author.Tests.{lt-ltb, le-ltb, le-leb, lt-leb, not-true, not-false}
+use borrow.Author.Tests.{lt-ltb, le-ltb, le-leb, lt-leb}
 use Rattle.ordered_bytes.specs.Buffer.{bufferOf, shapeFits, allWithin, wellFormed}
 use Rattle.ordered_bytes.proofs.WellFormed.{Shaped, shaped}
 use Rattle.ordered_bytes.proofs.Tests.{fit-by-marks}
+use Rattle.ordered_bytes.proofs.Malformed.{tested-ill, tested-well}
 use Rattle.ordered_bytes.proofs.well_formed.Statement.{statement}
 use Rattle.ordered_bytes.proofs.well_formed.Tie as tie
 
@@ -14,17 +15,17 @@ abbrev start : tie.Else1 → tie.Start
 start c = c .before .before .before .before .before
 
 shape : (c : tie.Else1) → let k = start c .args in shapeFits (k .o .«slot_width») (k .marks .now) (k .lengths .now) (k .store .now) ≡ true
-shape c = sym (c .before .shape-fits .ensures) ∙ not-false _ (c .if1 .left)
+shape c = tested-well (c .before .shape-fits .ensures) (c .if1 .left)
 
 facts : (c : tie.Else1) → let k = start c .args in Shaped (k .o .«slot_width») (k .marks .now) (k .lengths .now) (k .store .now)
 facts c = shaped _ _ _ _ (shape c)
 
 lengths : (c : tie.Else4) → let k = start (c .before .before .before .before .before .before) .args in allWithin (k .o .«slot_width») (k .lengths .now) ≡ true
-lengths c = sym (c .before .lengths-within .ensures) ∙ not-false _ (c .if4 .left)
+lengths c = tested-well (c .before .lengths-within .ensures) (c .if4 .left)
 
 returns : tie.Need-returns
 unfolding wellFormed
-returns c = simp (sym (c .before .shape-fits .ensures) ∙ not-true _ (c .if1 .taken))
+returns c = simp (tested-ill (c .before .shape-fits .ensures) (c .if1 .taken))
 
 returns-2 : tie.Need-returns-2
 unfolding wellFormed
@@ -41,7 +42,7 @@ returns-4 : tie.Need-returns-4
 unfolding wellFormed
 returns-4 c =
     let past = c .before .before in
-    simp (shape (past .before .before .before .before), lt-ltb _ _ (past .before .before .if2 .left), le-leb _ _ (past .if3 .left), sym (c .before .lengths-within .ensures) ∙ not-true _ (c .if4 .taken))
+    simp (shape (past .before .before .before .before), lt-ltb _ _ (past .before .before .if2 .left), le-leb _ _ (past .if3 .left), tested-ill (c .before .lengths-within .ensures) (c .if4 .taken))
 
 held-numbers-fit-requires : tie.Need-held-numbers-fit-requires
 held-numbers-fit-requires c κs = let s = facts (c .before .before .before .before .before .before) in search needs

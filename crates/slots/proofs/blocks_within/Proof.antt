@@ -1,7 +1,7 @@
 -- `slots::blocks_within` meets its contract. The invariant: the test of what is left is the test of all.
 -- Assumes nothing.
 use Prim.Native.Nat.{_-_, _≤_}
-use mathlib.Core.Path.{_≡_, refl, _∙_}
+use mathlib.Core.Path.{_≡_, _∙_}
 use native.Mathlib.Omega.{arith}
 use lib.ListN.{length, drop}
 use borrow.Author.Needs.{needs}
@@ -15,9 +15,6 @@ Inv-loop slot-width lengths from i₀ i = (allWithin slot-width (drop i lengths)
 
 abbrev μ-loop : tie.MeasureT-loop
 μ-loop slot-width lengths from i₀ i = length lengths - i
-
-loop-holds : tie.Need-loop-holds Inv-loop μ-loop
-loop-holds c = (refl, omega arith)
 
 returns : tie.Need-returns Inv-loop μ-loop
 returns c =
@@ -38,7 +35,7 @@ blocks-within-spec =
     (tie.spec
     Inv-loop
     μ-loop
-    loop-holds
+    (λ c. search needs)
     (λ c. search needs)
     (λ c κs. search needs)
     returns

@@ -1,6 +1,6 @@
 -- `slots::clear_lengths` meets its contract. The invariant: the first i lengths are 0, the others as they were. Assumes nothing.
 use Prim.Native.Nat.{ℕ, _-_, _≤_}
-use mathlib.Core.Path.{_≡_, refl, ap, _∙_}
+use mathlib.Core.Path.{_≡_, ap, _∙_}
 use mathlib.Core.List.{List, _++_}
 use native.Mathlib.Omega.{arith}
 use lib.ListN.{length, drop, set, replicate, length-set}
@@ -14,9 +14,6 @@ Inv-loop lengths₀ i₀ lengths i = (i ≤ length lengths₀) × (length length
 
 abbrev μ-loop : tie.MeasureT-loop
 μ-loop lengths₀ i₀ lengths i = length lengths₀ - i
-
-loop-holds : tie.Need-loop-holds Inv-loop μ-loop
-loop-holds c = (omega arith, refl, refl)
 
 loop-again : tie.Need-loop-again Inv-loop μ-loop
 loop-again c =
@@ -36,7 +33,7 @@ clear-lengths-spec =
     (tie.spec
     Inv-loop
     μ-loop
-    loop-holds
+    (λ c. search needs)
     (λ c. search needs)
     (λ c. search needs)
     (λ c. search needs)

@@ -1,6 +1,6 @@
 -- `slots::clear_marks` meets its contract. The invariant: the first i marks are false, the others as they were. Assumes nothing.
 use Prim.Native.Nat.{_-_, _≤_}
-use mathlib.Core.Path.{_≡_, refl, ap, _∙_}
+use mathlib.Core.Path.{_≡_, ap, _∙_}
 use mathlib.Core.Bool.{Bool, false}
 use mathlib.Core.List.{List, _++_}
 use native.Mathlib.Omega.{arith}
@@ -15,9 +15,6 @@ Inv-loop marks₀ i₀ marks i = (i ≤ length marks₀) × (length marks ≡ le
 
 abbrev μ-loop : tie.MeasureT-loop
 μ-loop marks₀ i₀ marks i = length marks₀ - i
-
-loop-holds : tie.Need-loop-holds Inv-loop μ-loop
-loop-holds c = (omega arith, refl, refl)
 
 loop-again : tie.Need-loop-again Inv-loop μ-loop
 loop-again c =
@@ -37,7 +34,7 @@ clear-marks-spec =
     (tie.spec
     Inv-loop
     μ-loop
-    loop-holds
+    (λ c. search needs)
     (λ c. search needs)
     (λ c. search needs)
     (λ c. search needs)

@@ -18,12 +18,6 @@ Inv-loop slot-width lengths from i₀ within₀ i within = ((within && allWithin
 abbrev μ-loop : tie.MeasureT-loop
 μ-loop slot-width lengths from i₀ within₀ i within = length lengths - i
 
-loop-holds : tie.Need-loop-holds Inv-loop μ-loop
-loop-holds c = (refl, omega arith)
-
-loop-less : tie.Need-loop-less Inv-loop μ-loop
-loop-less c = omega (arith, c .before .before .loop-test .taken)
-
 loop-again : tie.Need-loop-again Inv-loop μ-loop
 loop-again c =
     let at = c .before .before .before in
@@ -48,10 +42,10 @@ rest-within-spec =
     (tie.spec
     Inv-loop
     μ-loop
-    loop-holds
     (λ c. search needs)
     (λ c. search needs)
     (λ c. search needs)
-    loop-less
+    (λ c. search needs)
+    (λ c. search needs)
     loop-again
     returns)

@@ -4,6 +4,7 @@ use Prim.Native.Nat.{_+_, _-_, _*_, _≤_, _<_}
 use native.Mathlib.Omega.{arith}
 use mir.Facts.{fits-le, fits-lit}
 use lib.ListN.{length, getD}
+use borrow.Author.Needs.{needs}
 use Rattle.ordered_bytes.specs.Buffer.{Buffer, bufferOf, slots, width}
 use Rattle.ordered_bytes.proofs.WellFormed.{Good, good}
 use Rattle.ordered_bytes.proofs.View.{slot-ends, store-long}
@@ -70,21 +71,6 @@ copy-part-requires c κs =
     let turn = c .before .before .before in
     (omega (arith, size-fits turn), omega (arith, in-store turn, facts turn .lengths-w (turn .before .loop .slot)), room turn)
 
-add-list : tie.Need-add-list Inv-loop μ-loop
-add-list c =
-    let turn = c .before .before .before .before .before .before in
-    omega (arith, turn .loop-test .taken, start turn .pre .1 .cells, start turn .pre .0 .1, start turn .good)
-
-mul-list : tie.Need-mul-list Inv-loop μ-loop
-mul-list c =
-    let turn = c .before .before .before .before .before .before in
-    omega (arith, turn .loop-test .taken, start turn .pre .1 .cells, start turn .pre .0 .1, start turn .good)
-
-slice-write-list : tie.Need-slice-write-list Inv-loop μ-loop
-slice-write-list c =
-    let turn = c .before .before .before .before .before .before in
-    omega (arith, turn .loop-test .taken, start turn .pre .1 .cells, start turn .pre .0 .1, turn .before .loop .inv .list-long)
-
 cast-given : tie.Need-cast-given Inv-loop μ-loop
 cast-given c = fits-le (size-fits (c .before .before .before .before .before .before)) (fits-lit tt)
 
@@ -93,19 +79,11 @@ add-given c =
     let turn = c .before .before .before .before .before .before in
     omega (arith, room turn, turn .before .loop .inv .long, start turn .good)
 
-add-done : tie.Need-add-done Inv-loop μ-loop
-add-done c =
-    let turn = c .before .before .before .before .before .before in
-    omega (arith, turn .loop-test .taken, start turn .pre .1 .cells, start turn .pre .0 .1, start turn .good)
-
 wrap-index-requires : tie.Need-wrap-index-requires Inv-loop μ-loop
 wrap-index-requires c κs =
     let turn = c .before .before .before .before .before .before in
     let shape = facts turn .shape in
     (shape .few-slots, in-ring turn, shape .some-slots)
-
-loop-less : tie.Need-loop-less Inv-loop μ-loop
-loop-less c = omega (arith, c .before .before .before .before .before .before .before .loop-test .taken)
 
 loop-again : tie.Need-loop-again Inv-loop μ-loop
 loop-again c =
@@ -113,12 +91,6 @@ loop-again c =
     let turn = copied .before .before .before .before in
     let p = start turn .pre in
     copying-turn (facts turn) (p .0 .1) (p .1) (turn .before .loop .inv) (turn .loop-test .taken) (copied .copy-part .ensures) (c .wrap-index .ensures)
-
-same-length : tie.Need-same-length Inv-loop μ-loop
-same-length c = c .before .loop .inv .long
-
-same-length-2 : tie.Need-same-length-2 Inv-loop μ-loop
-same-length-2 c = c .before .loop .inv .list-long
 
 returns : tie.Need-returns Inv-loop μ-loop
 returns c = copying-done (c .before .loop .inv) (c .loop-test .left)
@@ -135,15 +107,15 @@ copy-payloads-spec =
     mul-copy-part
     cast-copy-part
     copy-part-requires
-    add-list
-    mul-list
-    slice-write-list
+    (λ c. search needs)
+    (λ c. search needs)
+    (λ c. search needs)
     cast-given
     add-given
-    add-done
+    (λ c. search needs)
     wrap-index-requires
-    loop-less
+    (λ c. search needs)
     loop-again
-    same-length
-    same-length-2
+    (λ c. search needs)
+    (λ c. search needs)
     returns)

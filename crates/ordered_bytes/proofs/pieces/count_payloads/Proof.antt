@@ -7,6 +7,7 @@ use mathlib.Core.Logic.{inl, inr}
 use native.Mathlib.Omega.{arith}
 use mir.Facts.{fits-le, fits-lit}
 use borrow.Author.Tests.{ltb-true, ltb-false}
+use borrow.Author.Needs.{needs}
 use Rattle.ordered_bytes.specs.declared.OrderedBytes.{OrderedBytes}
 use Rattle.ordered_bytes.specs.Buffer.{Buffer, bufferOf, wellFormed, slots}
 use Rattle.ordered_bytes.proofs.WellFormed.{Good, good}
@@ -66,19 +67,11 @@ add-bytes c =
     let g = facts at in
     omega (arith, state at .few, state at .small, g .lengths-w (at .loop .slot), g .shape .small-width, g .shape .few-slots)
 
-add-packets : tie.Need-add-packets Inv-loop μ-loop
-add-packets c =
-    let at = c .before .before .before .before .before in
-    omega (arith, state at .few, facts at .shape .few-slots)
-
 wrap-index-requires : tie.Need-wrap-index-requires Inv-loop μ-loop
 wrap-index-requires c κs =
     let at = c .before .before .before .before .before in
     let shape = facts at .shape in
     (shape .few-slots, in-ring at, shape .some-slots)
-
-loop-less : tie.Need-loop-less Inv-loop μ-loop
-loop-less c = omega (arith, c .before .before .before .before .before .loop-test .taken)
 
 loop-again : tie.Need-loop-again Inv-loop μ-loop
 loop-again c =
@@ -110,9 +103,9 @@ count-payloads-spec =
     shared-slice-read-bytes
     cast-bytes
     add-bytes
-    add-packets
+    (λ c. search needs)
     wrap-index-requires
-    loop-less
+    (λ c. search needs)
     loop-again
     returns
     returns-2

@@ -1,7 +1,7 @@
 -- `ordered_bytes::state::held_from` meets its contract. The invariant: none of the distances passed is held, so what is left decides.
 -- Assumes nothing.
 use Prim.Native.Nat.{_+_, _-_}
-use mathlib.Core.Path.{_≡_, refl, sym, _∙_}
+use mathlib.Core.Path.{_≡_, sym, _∙_}
 use mathlib.Core.Bool.{false, _||_}
 use native.Mathlib.Omega.{arith}
 use lib.ListN.{drop, getD}
@@ -17,9 +17,6 @@ Inv-loop distance marks n front-slot d₀ d = anyHeld (drop d (marked front-slot
 
 abbrev μ-loop : tie.MeasureT-loop
 μ-loop distance marks n front-slot d₀ d = n - d
-
-loop-holds : tie.Need-loop-holds Inv-loop μ-loop
-loop-holds c = refl
 
 shared-slice-read-if1 : tie.Need-shared-slice-read-if1 Inv-loop μ-loop
 shared-slice-read-if1 c =
@@ -53,4 +50,4 @@ returns-2 c =
     sym (rw (marks-alone (k .o) (k .marks .now)) (sym (at .loop .inv) ∙ marked-ends (k .o .«front_slot») (at .loop .d) (k .marks .now) (c .loop-test .left)))
 
 pub held-from-spec : {M : Type 1} → statement M
-held-from-spec = tie.close (tie.spec Inv-loop μ-loop loop-holds (λ c κs. search needs) shared-slice-read-if1 returns (λ c. search needs) (λ c. search needs) loop-again returns-2)
+held-from-spec = tie.close (tie.spec Inv-loop μ-loop (λ c. search needs) (λ c κs. search needs) shared-slice-read-if1 returns (λ c. search needs) (λ c. search needs) loop-again returns-2)

@@ -68,15 +68,6 @@ mul-start c =
     let test = c .before .before .before .before .before in
     omega (arith, in-store test, start (test .before) .good)
 
-sub-smaller : tie.Need-sub-smaller Inv-loop μ-loop
-sub-smaller c = let room = room-left (c .before .before .before .before) in omega arith
-
-add-copy-part : tie.Need-add-copy-part Inv-loop μ-loop
-add-copy-part c =
-    let then₁ = c .before .before .before .before .before .before in
-    let s = start (then₁ .before .before) in
-    omega (arith, room-left then₁, s .pre .1, s .good)
-
 copy-part-requires : tie.Need-copy-part-requires Inv-loop μ-loop
 copy-part-requires c κs =
     let then₁ = c .before .before .before .before .before .before in
@@ -86,37 +77,17 @@ copy-part-requires c κs =
     let wide = g .lengths-w (at .loop .slot) in
     (omega (arith, g .shape .small-width), omega (arith, in-store (then₁ .before)), omega (arith, room-left then₁, start at .pre .1, at .loop .inv .long))
 
-add-given : tie.Need-add-given Inv-loop μ-loop
-add-given c =
-    let then₁ = c .before .before .before .before .before .before .before .before .before in
-    let part = c .before .before .before .before .smaller .ensures in
-    let room = room-left then₁ in
-    let s = start (then₁ .before .before) in
-    omega (arith, s .pre .1, s .good)
-
 add-rest-at : tie.Need-add-rest-at Inv-loop μ-loop
 add-rest-at c =
     let test = c .before .before .before .before .before .before .before .before .before .before in
     let part = c .before .before .before .before .smaller .ensures in
     omega (arith, in-store test, facts (test .before) .lengths-w (test .before .loop .slot), start (test .before) .good)
 
-sub-rest : tie.Need-sub-rest Inv-loop μ-loop
-sub-rest c = let part = c .before .before .before .before .smaller .ensures in omega arith
-
-add-packets : tie.Need-add-packets Inv-loop μ-loop
-add-packets c =
-    let test = c .before .before .before .before .before .before .before .before .before .before in
-    let few = facts (test .before) .shape .few-slots in
-    omega (arith, test .loop-test .taken)
-
 wrap-index-requires : tie.Need-wrap-index-requires Inv-loop μ-loop
 wrap-index-requires c κs =
     let test = c .before .before .before .before .before .before .before .before .before .before in
     let few = facts (test .before) .shape in
     (few .few-slots, in-ring test, few .some-slots)
-
-loop-less : tie.Need-loop-less Inv-loop μ-loop
-loop-less c = omega (arith, c .before .before .before .before .before .before .before .before .before .before .before .loop-test .taken)
 
 loop-again : tie.Need-loop-again Inv-loop μ-loop
 loop-again c =
@@ -127,22 +98,13 @@ loop-again c =
     let at = then₁ .before .before in
     walking-turn (facts at) (at .loop .inv) (start at .pre .1) (then₁ .before .loop-test .taken) (room-left then₁) (read .if2 .taken) (cut .smaller .ensures) (copied .copy-part .ensures) (c .wrap-index .ensures)
 
-same-length : tie.Need-same-length Inv-loop μ-loop
-same-length c = c .before .before .before .before .loop .inv .long
-
 returns : tie.Need-returns Inv-loop μ-loop
 returns c =
     let test = c .before .before .before in
     walking-done (facts (test .before)) (test .before .loop .inv) (inr (inr (test .loop-test .taken, c .if2 .left)))
 
-same-length-2 : tie.Need-same-length-2 Inv-loop μ-loop
-same-length-2 c = c .before .before .loop .inv .long
-
 returns-2 : tie.Need-returns-2 Inv-loop μ-loop
 returns-2 c = walking-done (facts (c .before .before)) (c .before .before .loop .inv) (inr (inl (ltb-false _ _ (c .if1 .left))))
-
-same-length-3 : tie.Need-same-length-3 Inv-loop μ-loop
-same-length-3 c = c .before .loop .inv .long
 
 returns-3 : tie.Need-returns-3 Inv-loop μ-loop
 returns-3 c = walking-done (facts (c .before)) (c .before .loop .inv) (inl (c .loop-test .left))
@@ -159,20 +121,20 @@ walk-packets-spec =
     shared-slice-read-size
     cast-size
     mul-start
-    sub-smaller
+    (λ c. search needs)
     (λ c κs. search needs)
-    add-copy-part
+    (λ c. search needs)
     copy-part-requires
-    add-given
+    (λ c. search needs)
     add-rest-at
-    sub-rest
-    add-packets
+    (λ c. search needs)
+    (λ c. search needs)
     wrap-index-requires
-    loop-less
+    (λ c. search needs)
     loop-again
-    same-length
+    (λ c. search needs)
     returns
-    same-length-2
+    (λ c. search needs)
     returns-2
-    same-length-3
+    (λ c. search needs)
     returns-3)
