@@ -19,11 +19,14 @@ entry s = bufferOf (s .args .o) (s .args .marks .now) (s .args .lengths .now) (s
 facts : (s : tie.Start) → Good (entry s)
 facts s = good (s .pre)
 
-abbrev start₁ : tie.Else1 → tie.Start
-start₁ c = c .before .before .before .before .before
+abbrev start : tie.After-slice-known3 → tie.Start
+start c = c .before .before .before .before
 
 abbrev start₃ : tie.Else3 → tie.Start
-start₃ c = start₁ (c .before .before)
+start₃ c = start (c .before .before .before)
+
+abbrev else₃ : tie.After-struct-known → tie.Else3
+else₃ c = c .before .before .before .before
 
 -- past the third test the number has a slot
 near : (c : tie.Else3) → let s = start₃ c in s .args .n - s .args .o .«front_number» < slots (entry s)
@@ -36,14 +39,14 @@ read : (c : tie.After-slice-known4) {m : Bool} → let s = start₃ (c .before .
 read c {m} mark = rw (c .before .wrap-index .ensures) at mark
 
 returns : tie.Need-returns
-returns c = let s = c .before .before .before .before .before in refuses-below (entry s) (s .args .n) (s .args .payload .now) (s .pre) (c .if1 .taken)
+returns c = let s = start (c .before) in refuses-below (entry s) (s .args .n) (s .args .payload .now) (s .pre) (c .if1 .taken)
 
 returns-2 : tie.Need-returns-2
-returns-2 c = let s = start₁ (c .before) in refuses-beyond (entry s) (s .args .n) (s .args .payload .now) (s .pre) (c .before .if1 .left) (c .if2 .taken)
+returns-2 c = let s = start (c .before .before) in refuses-beyond (entry s) (s .args .n) (s .args .payload .now) (s .pre) (c .before .if1 .left) (c .if2 .taken)
 
 returns-3 : tie.Need-returns-3
 returns-3 c =
-    let s = start₁ (c .before .before) in
+    let s = start (c .before .before .before) in
     refuses-last (entry s) (s .args .n) (s .args .payload .now) (s .pre) (c .before .before .if1 .left) (c .before .if2 .left) (c .if3 .taken)
 
 wrap-index-requires : tie.Need-wrap-index-requires
@@ -61,14 +64,15 @@ returns-4 c =
 returns-5 : tie.Need-returns-5
 returns-5 c =
     let mark = c .before .before in
-    let past = mark .before .before .before in
+    let past = else₃ (c .before) in
     let s = start₃ past in
-    refuses-long (entry s) (s .args .n) (s .args .payload .now) (s .pre) (past .before .before .if1 .left) (past .before .if2 .left) (past .if3 .left) (read (mark .before) (mark .if4 .left)) (c .if5 .taken)
+    refuses-long (entry s) (s .args .n) (s .args .payload .now) (s .pre) (past .before .before .if1 .left) (past .before .if2 .left) (past .if3 .left)
+    (read (mark .before) (mark .if4 .left)) (c .if5 .taken)
 
 store-in-requires : tie.Need-store-in-requires
 store-in-requires c κs =
     let short = c .before .before .before in
-    let past = short .before .before .before .before .before in
+    let past = else₃ (short .before) in
     let s = start₃ past in
     let g = facts s in
     let below = slot-below g (le-of-lt (near past)) in
@@ -80,11 +84,12 @@ returns-6 c =
     let put = c .before .before .before .before .before .before in
     let short = put .before .before .before .before in
     let mark = short .before .before in
-    let past = mark .before .before .before in
+    let past = else₃ (short .before) in
     let s = start₃ past in
     let slot = mark .before .before .wrap-index .ensures in
     rw (put .store-in .ensures .0, put .store-in .ensures .1 .0, put .store-in .ensures .1 .1, slot)
-    (accepts (entry s) (s .args .n) (s .args .payload .now) (s .pre) (past .before .before .if1 .left) (past .before .if2 .left) (past .if3 .left) (read (mark .before) (mark .if4 .left)) (short .if5 .left))
+    (accepts (entry s) (s .args .n) (s .args .payload .now) (s .pre) (past .before .before .if1 .left) (past .before .if2 .left) (past .if3 .left)
+    (read (mark .before) (mark .if4 .left)) (short .if5 .left))
 
 pub buffer-in-packet-unchecked-spec : {M : Type 1} → statement M
 buffer-in-packet-unchecked-spec =

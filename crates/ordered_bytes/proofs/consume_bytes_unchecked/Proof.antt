@@ -19,20 +19,28 @@ start c = c .before .before .before .before .before .before .before .before .bef
 abbrev entry : tie.Start → Buffer
 entry s = bufferOf (s .args .o) (s .args .marks .now) (s .args .lengths .now) (s .args .store .now)
 
+abbrev told : tie.After-copy-pieces-arg5 → tie.After-enum-told2
+told c = c .before .before .before .before .before
+
+abbrev copied : tie.After-take-packets-arg3 → tie.After-copy-pieces
+copied c = c .before .before .before .before .before .before .before
+
+abbrev left : tie.After-slice-known10 → tie.After-take-packets
+left c = c .before .before .before .before .before .before
+
 copy-pieces-requires : tie.Need-copy-pieces-requires
 copy-pieces-requires c κs =
-    let told = c .before .before .before .before .before in
-    let answered = told .before .before in
+    let answered = told c .before .before in
     let s = start (answered .before) in
+    let k = s .args in
     let e = answered .before .count-pieces .ensures in (
-      (s .pre, again-length (entry s) (s .args .limit) (e .packets)),
-      pieces-room (entry s) (s .args .limit) (s .args .buf .now) (s .args .list .now) (s .pre) e (ap consumedBytesSays (told .enum-told2 .given .1)) (answered .consume-bytes-answer .ensures),
+      (s .pre, again-length (entry s) (k .limit) (e .packets)),
+      pieces-room (entry s) (k .limit) (k .buf .now) (k .list .now) (s .pre) e (ap consumedBytesSays (told c .enum-told2 .given .1)) (answered .consume-bytes-answer .ensures),
     )
 
 take-packets-requires : tie.Need-take-packets-requires
 take-packets-requires c κs =
-    let copied = c .before .before .before .before .before .before .before in
-    let counted = copied .before .before .before .before .before .before .before .before .before in
+    let counted = told (copied c .before) .before .before .before in
     let s = start counted in
     let k = counted .count-pieces .result .packets in
     let were = again-length (entry s) (s .args .limit) (counted .count-pieces .ensures .packets) in (
@@ -44,19 +52,20 @@ returns : tie.Need-returns
 returns c =
     let answered = c .before .before in
     let s = start (answered .before) in
-    let e = answered .before .count-pieces .ensures in
-    pieces-refused (entry s) (s .args .limit) (s .args .buf .now) (s .args .list .now) (s .pre) e (ap consumedBytesSays (c .enum-told .given .1)) (answered .consume-bytes-answer .ensures)
+    let k = s .args in
+    let says = ap consumedBytesSays (c .enum-told .given .1) in
+    pieces-refused (entry s) (k .limit) (k .buf .now) (k .list .now) (s .pre) (answered .before .count-pieces .ensures) says (answered .consume-bytes-answer .ensures)
 
 returns-2 : tie.Need-returns-2
 returns-2 c =
-    let left = c .before .before .before .before .before .before in
-    let copied = left .before .before .before .before .before .before .before .before in
-    let told = copied .before .before .before .before .before .before in
-    let answered = told .before .before in
+    let copies = copied (left c .before) in
+    let given = told (copies .before) in
+    let answered = given .before .before in
     let s = start (answered .before) in
-    let e = answered .before .count-pieces .ensures in
-    pieces-given (entry s) (s .args .limit) (s .args .buf .now) (s .args .list .now) (s .pre) e (ap consumedBytesSays (told .enum-told2 .given .1)) (answered .consume-bytes-answer .ensures)
-    (left .take-packets .ensures) (copied .copy-pieces .ensures)
+    let k = s .args in
+    let says = ap consumedBytesSays (given .enum-told2 .given .1) in
+    pieces-given (entry s) (k .limit) (k .buf .now) (k .list .now) (s .pre) (answered .before .count-pieces .ensures) says (answered .consume-bytes-answer .ensures)
+    (left c .take-packets .ensures) (copies .copy-pieces .ensures)
 
 pub consume-bytes-unchecked-spec : {M : Type 1} → statement M
 consume-bytes-unchecked-spec =

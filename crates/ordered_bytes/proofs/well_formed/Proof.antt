@@ -1,61 +1,67 @@
 -- `ordered_bytes::well_formed` meets its contract: each test in the definition's order. Assumes nothing.
-use mathlib.Core.Path.{_≡_, sym, _∙_}
-use mathlib.Core.Bool.{true}
+use mathlib.Core.Path.{sym, _∙_}
 use mir.Facts.{fits-le, fits-lit}
 use borrow.Author.Needs.{needs}
 use borrow.Author.Tests.{lt-ltb, le-ltb, le-leb, lt-leb}
-use Rattle.ordered_bytes.specs.Buffer.{bufferOf, shapeFits, allWithin, wellFormed}
+use Rattle.ordered_bytes.specs.Buffer.{wellFormed}
 use Rattle.ordered_bytes.proofs.WellFormed.{Shaped, shaped}
 use Rattle.ordered_bytes.proofs.Tests.{fit-by-marks}
 use Rattle.ordered_bytes.proofs.Malformed.{tested-ill, tested-well}
 use Rattle.ordered_bytes.proofs.well_formed.Statement.{statement}
 use Rattle.ordered_bytes.proofs.well_formed.Tie as tie
 
-abbrev start : tie.Else1 → tie.Start
-start c = c .before .before .before .before .before
+-- past the third test: where the first was left
+abbrev else₁ : tie.Else3 → tie.Else1
+else₁ c = c .before .before .before .before
 
-shape : (c : tie.Else1) → let k = start c .args in shapeFits (k .o .«slot_width») (k .marks .now) (k .lengths .now) (k .store .now) ≡ true
-shape c = tested-well (c .before .shape-fits .ensures) (c .if1 .left)
-
-facts : (c : tie.Else1) → let k = start c .args in Shaped (k .o .«slot_width») (k .marks .now) (k .lengths .now) (k .store .now)
-facts c = shaped _ _ _ _ (shape c)
-
-lengths : (c : tie.Else4) → let k = start (c .before .before .before .before .before .before) .args in allWithin (k .o .«slot_width») (k .lengths .now) ≡ true
-lengths c = tested-well (c .before .lengths-within .ensures) (c .if4 .left)
+facts : (c : tie.Else1) → let k = c .before .before .before .before .before .args in Shaped (k .o .«slot_width») (k .marks .now) (k .lengths .now) (k .store .now)
+facts c = shaped (tested-well (c .before .shape-fits .ensures) (c .if1 .left))
 
 returns : tie.Need-returns
 unfolding wellFormed
-returns c = simp (tested-ill (c .before .shape-fits .ensures) (c .if1 .taken))
+returns c = rw (tested-ill (c .before .shape-fits .ensures) (c .if1 .taken))
 
 returns-2 : tie.Need-returns-2
 unfolding wellFormed
-returns-2 c = simp (shape (c .before .before), le-ltb _ _ (c .if2 .taken))
+returns-2 c = let e = c .before .before in simp (tested-well (e .before .shape-fits .ensures) (e .if1 .left), le-ltb _ _ (c .if2 .taken))
 
 returns-3 : tie.Need-returns-3
 unfolding wellFormed
-returns-3 c = simp (shape (c .before .before .before .before), lt-ltb _ _ (c .before .before .if2 .left), lt-leb _ _ (c .if3 .taken))
+returns-3 c =
+    let e = c .before .before .before .before in
+    simp (tested-well (e .before .shape-fits .ensures) (e .if1 .left), lt-ltb _ _ (c .before .before .if2 .left), lt-leb _ _ (c .if3 .taken))
 
 cast-lengths-within : tie.Need-cast-lengths-within
-cast-lengths-within c = fits-le (facts (c .before .before .before .before) .small-width) (fits-lit tt)
+cast-lengths-within c = fits-le (facts (else₁ c) .small-width) (fits-lit tt)
 
 returns-4 : tie.Need-returns-4
 unfolding wellFormed
 returns-4 c =
     let past = c .before .before in
-    simp (shape (past .before .before .before .before), lt-ltb _ _ (past .before .before .if2 .left), le-leb _ _ (past .if3 .left), tested-ill (c .before .lengths-within .ensures) (c .if4 .taken))
+    let e = else₁ past in
+    simp (
+      tested-well (e .before .shape-fits .ensures) (e .if1 .left),
+      lt-ltb _ _ (past .before .before .if2 .left),
+      le-leb _ _ (past .if3 .left),
+      tested-ill (c .before .lengths-within .ensures) (c .if4 .taken),
+    )
 
 held-numbers-fit-requires : tie.Need-held-numbers-fit-requires
-held-numbers-fit-requires c κs = let s = facts (c .before .before .before .before .before .before) in search needs
+held-numbers-fit-requires c κs = let s = facts (else₁ (c .before .before)) in search needs
 
 returns-5 : tie.Need-returns-5
 unfolding wellFormed
 returns-5 c =
-    let past = c .before .before .before in
-    let else₁ = past .before .before .before .before in
-    let k = start else₁ .args in
-    let b = bufferOf (k .o) (k .marks .now) (k .lengths .now) (k .store .now) in
-    simp (shape else₁, lt-ltb _ _ (past .before .before .if2 .left), le-leb _ _ (past .if3 .left), lengths (c .before))
-    (c .held-numbers-fit .ensures ∙ sym (fit-by-marks b (k .o .«front_number»)))
+    let test = c .before in
+    let past = test .before .before in
+    let e = else₁ past in
+    simp (
+      tested-well (e .before .shape-fits .ensures) (e .if1 .left),
+      lt-ltb _ _ (past .before .before .if2 .left),
+      le-leb _ _ (past .if3 .left),
+      tested-well (test .before .lengths-within .ensures) (test .if4 .left),
+    )
+    (c .held-numbers-fit .ensures ∙ sym (fit-by-marks _ _))
 
 pub well-formed-spec : {M : Type 1} → statement M
 well-formed-spec =

@@ -25,6 +25,9 @@ Turn = tie.In-loop Inv-loop μ-loop
 abbrev start : Turn → tie.Start Inv-loop μ-loop
 start c = c .before .before .before .before .before .before .before
 
+abbrev turned : tie.After-slice-known3 Inv-loop μ-loop → Turn
+turned c = c .before .before .before .before .before .before
+
 abbrev entry : Turn → Buffer
 entry c = let k = start c .args in bufferOf (k .o) (k .marks .now) (k .lengths .now) (k .store .now)
 
@@ -72,16 +75,16 @@ copy-part-requires c κs =
     (omega (arith, size-fits turn), omega (arith, in-store turn, facts turn .lengths-w (turn .before .loop .slot)), room turn)
 
 cast-given : tie.Need-cast-given Inv-loop μ-loop
-cast-given c = fits-le (size-fits (c .before .before .before .before .before .before)) (fits-lit tt)
+cast-given c = fits-le (size-fits (turned c)) (fits-lit tt)
 
 add-given : tie.Need-add-given Inv-loop μ-loop
 add-given c =
-    let turn = c .before .before .before .before .before .before in
+    let turn = turned c in
     omega (arith, room turn, turn .before .loop .inv .long, start turn .good)
 
 wrap-index-requires : tie.Need-wrap-index-requires Inv-loop μ-loop
 wrap-index-requires c κs =
-    let turn = c .before .before .before .before .before .before in
+    let turn = turned c in
     let shape = facts turn .shape in
     (shape .few-slots, in-ring turn, shape .some-slots)
 

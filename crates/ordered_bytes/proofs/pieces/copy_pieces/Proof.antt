@@ -24,41 +24,52 @@ facts s = good (s .pre .0 .0)
 behind : (s : tie.Start) → let k = s .args in RoomFor (heldPayloads (entry s) (k .packets)) (k .buf .now) (k .o .«carry_len») (k .list .now) (cond (eqb (k .o .«carry_len») 0) 0 1)
 behind s = room-behind (facts s) (s .args .packets) (s .args .buf .now) (s .args .list .now) (s .pre .1)
 
+abbrev start : tie.After-struct-known → tie.Start
+start c = c .before .before .before .before .before .before
+
+abbrev copied : tie.After-put-carry-length-arg → tie.After-copy-part
+copied c = c .before .before .before
+
+-- the function's entry, from where the carry-over is copied
+abbrev from : tie.After-copy-part → tie.Start
+from c = start (c .before .before)
+
+abbrev put : tie.After-copy-payloads-arg2 → tie.After-put-carry-length
+put c = c .before .before .before .before
+
 mul-copy-part : tie.Need-mul-copy-part
-mul-copy-part c = let s = c .before .before .before .before .before .before in omega (arith, carry-in (facts s), s .good)
+mul-copy-part c = omega (arith, carry-in (facts (start c)), start c .good)
 
 copy-part-requires : tie.Need-copy-part-requires
 copy-part-requires c κs =
-    let s = c .before .before .before .before .before .before .before in
+    let s = start (c .before) in
     let g = facts s in
     (omega (arith, g .carry-w, g .shape .small-width), omega (arith, carry-in g), omega (arith, behind s .bytes))
 
 put-carry-length-requires : tie.Need-put-carry-length-requires
 put-carry-length-requires c κs =
-    let s = c .before .before .before .before .before .before .before .before .before .before .before in
+    let s = from (copied c) in
     let g = facts s in
     (omega (arith, g .carry-w, g .shape .small-width), omega (arith, behind s .cells))
 
 copy-payloads-requires : tie.Need-copy-payloads-requires
 copy-payloads-requires c κs =
-    let put = c .before .before .before .before in
-    let s = put .before .before .before .before .before .before .before .before .before .before .before .before in
-    (s .pre .0, record { bytes = omega (arith, behind s .bytes); cells = omega (arith, put .put-carry-length .ensures .0, behind s .cells) })
+    let s = from (copied (put c .before)) in
+    (s .pre .0, record { bytes = omega (arith, behind s .bytes); cells = omega (arith, put c .put-carry-length .ensures .0, behind s .cells) })
 
 returns : tie.Need-returns
 returns c =
     let last = c .before .before .before .before in
-    let put = last .before .before .before .before .before in
-    let copied = put .before .before .before .before in
-    let s = copied .before .before .before .before .before .before .before .before in
+    let one = put (last .before) .put-carry-length .ensures in
+    let carry = copied (put (last .before) .before) in
+    let s = from carry in
     let g = facts s in
     let b = entry s in
     let ps = heldPayloads b (s .args .packets) in
-    let put = put .put-carry-length .ensures in
     let copies = last .copy-payloads .ensures in
     record {
-      bytes = rw (flatten-carry (view b .carry) ps) (carry-then g (flatten ps) (s .args .buf .now) (omega (arith, behind s .bytes)) (copied .copy-part .ensures) (copies .bytes));
-      cells = cells-written (view b .carry) (s .args .list .now) ps (length-carry g) (put .0) (omega (arith, put .0, behind s .cells)) (put .1) (copies .cells);
+      bytes = rw (flatten-carry (view b .carry) ps) (carry-then g (flatten ps) (s .args .buf .now) (omega (arith, behind s .bytes)) (carry .copy-part .ensures) (copies .bytes));
+      cells = cells-written (view b .carry) (s .args .list .now) ps (length-carry g) (one .0) (omega (arith, one .0, behind s .cells)) (one .1) (copies .cells);
     }
 
 pub copy-pieces-spec : {M : Type 1} → statement M

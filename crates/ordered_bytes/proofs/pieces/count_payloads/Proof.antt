@@ -28,6 +28,9 @@ At = tie.At-loop Inv-loop μ-loop
 abbrev start : At → tie.Start Inv-loop μ-loop
 start c = c .before .before .before .before
 
+abbrev turned : tie.After-shared-slice-known5 Inv-loop μ-loop → At
+turned c = c .before .before .before .before .before
+
 abbrev entry : At → Buffer
 entry c = let k = start c .args in bufferOf (k .o) (k .marks .now) (k .lengths .now) (k .store .now)
 
@@ -53,23 +56,23 @@ mul-bytes c =
 
 shared-slice-read-bytes : tie.Need-shared-slice-read-bytes Inv-loop μ-loop
 shared-slice-read-bytes c =
-    let at = c .before .before .before .before .before in
+    let at = turned c in
     rw (facts at .shape .lengths-n) (in-ring at)
 
 cast-bytes : tie.Need-cast-bytes Inv-loop μ-loop
 cast-bytes c =
-    let at = c .before .before .before .before .before in
+    let at = turned c in
     fits-le (facts at .lengths-w (at .loop .slot)) (fits-le (facts at .shape .small-width) (fits-lit tt))
 
 add-bytes : tie.Need-add-bytes Inv-loop μ-loop
 add-bytes c =
-    let at = c .before .before .before .before .before in
+    let at = turned c in
     let g = facts at in
     omega (arith, state at .few, state at .small, g .lengths-w (at .loop .slot), g .shape .small-width, g .shape .few-slots)
 
 wrap-index-requires : tie.Need-wrap-index-requires Inv-loop μ-loop
 wrap-index-requires c κs =
-    let at = c .before .before .before .before .before in
+    let at = turned c in
     let shape = facts at .shape in
     (shape .few-slots, in-ring at, shape .some-slots)
 

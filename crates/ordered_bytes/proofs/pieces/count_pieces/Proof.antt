@@ -3,8 +3,8 @@ use mathlib.Core.Path.{sym, _∙_}
 use native.Mathlib.Omega.{arith}
 use lib.Dec.{eqb}
 use borrow.Author.Needs.{needs}
-use Rattle.ordered_bytes.specs.Buffer.{Buffer, bufferOf, view}
-use Rattle.ordered_bytes.proofs.WellFormed.{Good, good}
+use Rattle.ordered_bytes.specs.Buffer.{bufferOf, view}
+use Rattle.ordered_bytes.proofs.WellFormed.{good}
 use Rattle.ordered_bytes.proofs.View.{length-held}
 use Rattle.ordered_bytes.proofs.Walk.{payloads-most}
 use Rattle.ordered_bytes.proofs.Places.{base-by-marks}
@@ -12,37 +12,39 @@ use Rattle.ordered_bytes.proofs.Gathered.{at-most-one, pieces-counted}
 use Rattle.ordered_bytes.proofs.pieces.count_pieces.Statement.{statement}
 use Rattle.ordered_bytes.proofs.pieces.count_pieces.Tie as tie
 
-abbrev entry : tie.Start → Buffer
-entry s = bufferOf (s .args .o) (s .args .marks .now) (s .args .lengths .now) (s .args .store .now)
+abbrev start : tie.After-carry-pieces → tie.Start
+start c = c .before .before .before .before
 
-facts : (s : tie.Start) → Good (entry s)
-facts s = good (s .pre)
+abbrev first : tie.After-count-payloads → tie.After-carry-pieces
+first c = c .before .before
+
+abbrev counted : tie.After-struct-known3 → tie.After-count-payloads
+counted c = c .before .before .before
 
 add-t8 : tie.Need-add-t8
 add-t8 c =
-    let counted = c .before in
-    let less = counted .before in
-    let s = less .before .before .before .before .before in
-    let few = payloads-most (less .saturating-sub .result) (view (entry s) .held) .1 in
-    omega (arith, less .before .carry-pieces .ensures, at-most-one (eqb (s .args .o .«carry_len») 0), counted .count-payloads .ensures .packets, length-held (entry s), facts s .shape .few-slots)
+    let all = c .before in
+    let s = start (first all) in
+    let k = s .args in
+    let b = bufferOf (k .o) (k .marks .now) (k .lengths .now) (k .store .now) in
+    let few = payloads-most (all .before .saturating-sub .result) (view b .held) .1 in
+    let one = at-most-one (eqb (k .o .«carry_len») 0) in
+    omega (arith, first all .carry-pieces .ensures, all .count-payloads .ensures .packets, length-held b, good (s .pre) .shape .few-slots)
 
 add-t9 : tie.Need-add-t9
 add-t9 c =
-    let counted = c .before .before .before in
-    let s = counted .before .before .before .before .before .before in
-    omega (arith, facts s .carry-w, facts s .shape .small-width, counted .count-payloads .ensures .few)
+    let g = good (start (first (counted c)) .pre) in
+    omega (arith, g .carry-w, g .shape .small-width, counted c .count-payloads .ensures .few)
 
 base-packet-number-requires : tie.Need-base-packet-number-requires
-base-packet-number-requires c κs = facts (c .before .before .before .before .before .before .before .before .before) .front-n
+base-packet-number-requires c κs = good (start (first (counted c)) .pre) .front-n
 
 returns : tie.Need-returns
 returns c =
-    let counted = c .before .before .before .before in
-    let less = counted .before in
-    let first = less .before in
-    let s = first .before .before .before .before in
-    pieces-counted (facts s) (s .args .limit) (first .carry-pieces .ensures) (less .saturating-sub .ensures) (counted .count-payloads .ensures)
-    (c .base-packet-number .ensures ∙ sym (base-by-marks (facts s)))
+    let all = counted (c .before) in
+    let s = start (first all) in
+    pieces-counted (good (s .pre)) (s .args .limit) (first all .carry-pieces .ensures) (all .before .saturating-sub .ensures) (all .count-payloads .ensures)
+    (c .base-packet-number .ensures ∙ sym (base-by-marks (good (s .pre))))
 
 pub count-pieces-spec : {M : Type 1} → statement M
 count-pieces-spec =

@@ -20,8 +20,8 @@ abbrev μ-loop : tie.MeasureT-loop
 
 shared-slice-read-if1 : tie.Need-shared-slice-read-if1 Inv-loop μ-loop
 shared-slice-read-if1 c =
-    let start = c .before .before .before .before .before in
-    rw (c .before .wrap-index .ensures) (wrap-below (start .pre .1) (omega (arith, c .before .before .loop-test .taken)))
+    let at = c .before .before .before in
+    rw (c .before .wrap-index .ensures) (wrap-below (at .before .before .pre .1) (omega (arith, c .before .before .loop-test .taken)))
 
 -- a turn: the slot at the present distance, and what is left
 turn : (c : tie.After-shared-slice-known2 Inv-loop μ-loop) → let at = c .before .before .before in let k = at .before .before .args in

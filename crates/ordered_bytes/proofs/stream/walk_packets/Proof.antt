@@ -43,6 +43,13 @@ in-ring c = walking-in (facts (c .before)) (c .before .loop .inv) (c .loop-test 
 in-store : (c : tie.In-loop Inv-loop μ-loop) → let b = entry (c .before) in c .before .loop .slot * width b + width b ≤ length (b .store)
 in-store c = let g = facts (c .before) in omega (arith, store-long g, slot-ends g (in-ring c))
 
+abbrev then₁ : tie.After-shared-slice-known5 Inv-loop μ-loop → tie.Then1 Inv-loop μ-loop
+then₁ c = c .before .before .before
+
+-- where the part to copy was decided
+abbrev cut : tie.After-slice-known2 Inv-loop μ-loop → tie.After-smaller Inv-loop μ-loop
+cut c = c .before .before .before .before
+
 -- some bytes are still to give
 room-left : (c : tie.Then1 Inv-loop μ-loop) → c .before .before .loop .given < start (c .before .before) .args .room
 room-left c = ltb-true _ _ (c .if1 .taken)
@@ -60,43 +67,43 @@ shared-slice-read-size c =
 
 cast-size : tie.Need-cast-size Inv-loop μ-loop
 cast-size c =
-    let at = c .before .before .before .before .before in
+    let at = then₁ c .before .before in
     fits-le (facts at .lengths-w (at .loop .slot)) (fits-le (facts at .shape .small-width) (fits-lit tt))
 
 mul-start : tie.Need-mul-start Inv-loop μ-loop
 mul-start c =
-    let test = c .before .before .before .before .before in
+    let test = then₁ (c .before) .before in
     omega (arith, in-store test, start (test .before) .good)
 
 copy-part-requires : tie.Need-copy-part-requires Inv-loop μ-loop
 copy-part-requires c κs =
-    let then₁ = c .before .before .before .before .before .before in
-    let at = then₁ .before .before in
+    let more = then₁ (c .before .before .before) in
+    let at = more .before .before in
     let g = facts at in
     let part = c .before .smaller .ensures in
     let wide = g .lengths-w (at .loop .slot) in
-    (omega (arith, g .shape .small-width), omega (arith, in-store (then₁ .before)), omega (arith, room-left then₁, start at .pre .1, at .loop .inv .long))
+    (omega (arith, g .shape .small-width), omega (arith, in-store (more .before)), omega (arith, room-left more, start at .pre .1, at .loop .inv .long))
 
 add-rest-at : tie.Need-add-rest-at Inv-loop μ-loop
 add-rest-at c =
-    let test = c .before .before .before .before .before .before .before .before .before .before in
-    let part = c .before .before .before .before .smaller .ensures in
+    let test = then₁ (cut c .before .before) .before in
+    let part = cut c .smaller .ensures in
     omega (arith, in-store test, facts (test .before) .lengths-w (test .before .loop .slot), start (test .before) .good)
 
 wrap-index-requires : tie.Need-wrap-index-requires Inv-loop μ-loop
 wrap-index-requires c κs =
-    let test = c .before .before .before .before .before .before .before .before .before .before in
+    let test = then₁ (cut c .before .before) .before in
     let few = facts (test .before) .shape in
     (few .few-slots, in-ring test, few .some-slots)
 
 loop-again : tie.Need-loop-again Inv-loop μ-loop
 loop-again c =
-    let copied = c .before .before .before in
-    let cut = copied .before .before in
-    let read = cut .before .before .before in
-    let then₁ = read .before .before in
-    let at = then₁ .before .before in
-    walking-turn (facts at) (at .loop .inv) (start at .pre .1) (then₁ .before .loop-test .taken) (room-left then₁) (read .if2 .taken) (cut .smaller .ensures) (copied .copy-part .ensures) (c .wrap-index .ensures)
+    let part = cut (c .before) in
+    let read = part .before .before in
+    let more = then₁ read in
+    let at = more .before .before in
+    walking-turn (facts at) (at .loop .inv) (start at .pre .1) (more .before .loop-test .taken) (room-left more) (read .before .if2 .taken)
+    (part .smaller .ensures) (c .before .before .before .copy-part .ensures) (c .wrap-index .ensures)
 
 returns : tie.Need-returns Inv-loop μ-loop
 returns c =
