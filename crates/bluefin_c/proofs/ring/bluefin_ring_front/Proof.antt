@@ -1,9 +1,6 @@
--- `bluefin_c::ring::bluefin_ring_front` meets its contract: its MIR is `LentShared.antt`'s shape at `ring_buffer::front` and `peeked_of`. Assumes nothing.
-use denote.Enum.Laws as EL
-use denote.Struct.Laws as LL
-use denote.Triple.Spec.{tripleOf}
-use denote.Triple.Table.{entered, cited}
-use contract.Running.{givenOf, tables, tablesOf}
+-- `bluefin_c::ring::bluefin_ring_front` meets its contract: its MIR is `Shapes.antt`'s `shared` at `ring_buffer::front` and `peeked_of`. Assumes nothing.
+use mathlib.Core.Path.{_≡_, ap, _∙_}
+use denote.Ref.{now}
 use Rattle.ring_buffer.specs.Ring.{front}
 use Rattle.ring_buffer.specs.Says.{peekedSays}
 use Rattle.ring_buffer.proofs.Peeked as X
@@ -12,24 +9,36 @@ use Rattle.ring_buffer.proofs.front.Symbol as callee-def
 use Rattle.ring_buffer.proofs.front.Symbol.{name as #callee}
 use Rattle.ring_buffer.proofs.front.Met as callee-thm
 use Rattle.flat.specs.RingAnswers.{poppedOf}
-use Rattle.bluefin_c.proofs.LentShared.{Callee, Conversion, meets}
 use Rattle.flat.proofs.ring.Popped as Y
 use Rattle.flat.proofs.ring.Popped.Laws as Y′
 use Rattle.flat.proofs.ring.peeked_of.Symbol as convert-def
 use Rattle.flat.proofs.ring.peeked_of.Symbol.{name as #convert}
 use Rattle.flat.proofs.ring.peeked_of.Met as convert-thm
+use Rattle.bluefin_c.proofs.Lent.{Handed, stands}
+use Rattle.bluefin_c.proofs.Shapes.{shared-others, shared, shared-walk}
 use Rattle.bluefin_c.proofs.ring.bluefin_ring_front.Key.{name as #self}
-use Rattle.bluefin_c.proofs.ring.bluefin_ring_front as self
 use Rattle.bluefin_c.proofs.ring.bluefin_ring_front.Statement as stated
 use Rattle.bluefin_c.proofs.ring.bluefin_ring_front.Code as code
 
+-- the ring stays as it was
+abbrev handed : Handed
+handed = record {
+  others = shared-others;
+  shape = shared;
+  walk = shared-walk;
+  enum = X.the-type;
+  enum-laws = X′.the-laws;
+  few = tt;
+  struct = Y.the-type;
+  struct-laws = Y′.the-laws;
+  h = λ g x. poppedOf g (peekedSays x);
+  P = λ κs a x e. peekedSays x ≡ front (a .0) (now (a .1 .0));
+  Z = λ κs a y e. y ≡ poppedOf (a .0) (front (a .0) (now (a .1 .0)));
+  turns = λ κs a p r e is says. is ∙ ap (poppedOf (a .0)) says;
+}
+
 pub bluefin-ring-front-spec : {M : Type 1} → stated.statement M
-unfolding code.routine tablesOf
+unfolding code.routine
 bluefin-ring-front-spec 𝓤 H 𝓜 𝓖 𝓡 =
-    entered 𝓤 H (tripleOf 𝓤 H (𝓖 .A) self.signature (self.spec 𝓤 H (𝓖 .A) (𝓜 .mem) (𝓡 .run)))
-    (tables 𝓤 H 𝓜 𝓡 code.env .C) (tables 𝓤 H 𝓜 𝓡 code.env .Λ) #self code.function (code.unfolded 𝓤 H 𝓜 𝓡)
-    (meets X.the-row Y.the-row peekedSays poppedOf front 𝓤 H (𝓖 .A) (givenOf 𝓤 H 𝓜 𝓖) X′.mir Y′.mir
-    (λ p v is. EL.lawful X.the-type X′.the-laws 𝓤 H (𝓖 .A) (givenOf 𝓤 H 𝓜 𝓖) tt .typed p _ is .0) (λ p v is. LL.lawful Y.the-type Y′.the-laws 𝓤 H (𝓖 .A) (givenOf 𝓤 H 𝓜 𝓖) .typed p _ is .0)
-    #callee #convert (tablesOf 𝓤 H 𝓜 (tables 𝓤 H 𝓜 𝓡 code.env))
-    (cited 𝓤 H (Callee X.the-row Y.the-row peekedSays poppedOf front 𝓤 H (𝓖 .A)) 𝓜 𝓡 code.env #callee callee-def.routine code.calls-ring-buffer·front (callee-thm.met 𝓤 H 𝓜 𝓖 𝓡))
-    (cited 𝓤 H (Conversion X.the-row Y.the-row peekedSays poppedOf front 𝓤 H (𝓖 .A)) 𝓜 𝓡 code.env #convert convert-def.routine code.calls-flat·ring·peeked-of (convert-thm.met 𝓤 H 𝓜 𝓖 𝓡)))
+    stands handed 𝓤 H 𝓜 𝓖 𝓡 code.env #self #callee #convert callee-def.routine convert-def.routine
+    (code.unfolded 𝓤 H 𝓜 𝓡) code.calls-ring-buffer·front (callee-thm.met 𝓤 H 𝓜 𝓖 𝓡) code.calls-flat·ring·peeked-of (convert-thm.met 𝓤 H 𝓜 𝓖 𝓡)

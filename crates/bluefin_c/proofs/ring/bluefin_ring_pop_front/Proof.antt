@@ -1,9 +1,4 @@
--- `bluefin_c::ring::bluefin_ring_pop_front` meets its contract: its MIR is `LentBare.antt`'s shape at `ring_buffer::pop_front` and `popped_of`. Assumes nothing.
-use denote.Enum.Laws as EL
-use denote.Struct.Laws as LL
-use denote.Triple.Spec.{tripleOf}
-use denote.Triple.Table.{entered, cited}
-use contract.Running.{givenOf, tables, tablesOf}
+-- `bluefin_c::ring::bluefin_ring_pop_front` meets its contract: its MIR is `Shapes.antt`'s `bare` at `ring_buffer::pop_front` and `popped_of`. Assumes nothing.
 use Rattle.ring_buffer.specs.Ring.{popFront}
 use Rattle.ring_buffer.specs.Says.{poppedSays, ringPopped}
 use Rattle.ring_buffer.proofs.Popped as X
@@ -12,24 +7,19 @@ use Rattle.ring_buffer.proofs.pop_front.Symbol as callee-def
 use Rattle.ring_buffer.proofs.pop_front.Symbol.{name as #callee}
 use Rattle.ring_buffer.proofs.pop_front.Met as callee-thm
 use Rattle.flat.specs.RingAnswers.{poppedOf}
-use Rattle.bluefin_c.proofs.LentBare.{Callee, Conversion, meets}
 use Rattle.flat.proofs.ring.Popped as Y
 use Rattle.flat.proofs.ring.Popped.Laws as Y′
 use Rattle.flat.proofs.ring.popped_of.Symbol as convert-def
 use Rattle.flat.proofs.ring.popped_of.Symbol.{name as #convert}
 use Rattle.flat.proofs.ring.popped_of.Met as convert-thm
+use Rattle.bluefin_c.proofs.Lent.{stands}
+use Rattle.bluefin_c.proofs.Shapes.{bare-call}
 use Rattle.bluefin_c.proofs.ring.bluefin_ring_pop_front.Key.{name as #self}
-use Rattle.bluefin_c.proofs.ring.bluefin_ring_pop_front as self
 use Rattle.bluefin_c.proofs.ring.bluefin_ring_pop_front.Statement as stated
 use Rattle.bluefin_c.proofs.ring.bluefin_ring_pop_front.Code as code
 
 pub bluefin-ring-pop-front-spec : {M : Type 1} → stated.statement M
-unfolding code.routine tablesOf
+unfolding code.routine
 bluefin-ring-pop-front-spec 𝓤 H 𝓜 𝓖 𝓡 =
-    entered 𝓤 H (tripleOf 𝓤 H (𝓖 .A) self.signature (self.spec 𝓤 H (𝓖 .A) (𝓜 .mem) (𝓡 .run)))
-    (tables 𝓤 H 𝓜 𝓡 code.env .C) (tables 𝓤 H 𝓜 𝓡 code.env .Λ) #self code.function (code.unfolded 𝓤 H 𝓜 𝓡)
-    (meets X.the-row Y.the-row poppedSays ringPopped poppedOf popFront 𝓤 H (𝓖 .A) (givenOf 𝓤 H 𝓜 𝓖) X′.mir Y′.mir
-    (λ p v is. EL.lawful X.the-type X′.the-laws 𝓤 H (𝓖 .A) (givenOf 𝓤 H 𝓜 𝓖) tt .typed p _ is .0) (λ p v is. LL.lawful Y.the-type Y′.the-laws 𝓤 H (𝓖 .A) (givenOf 𝓤 H 𝓜 𝓖) .typed p _ is .0)
-    #callee #convert (tablesOf 𝓤 H 𝓜 (tables 𝓤 H 𝓜 𝓡 code.env))
-    (cited 𝓤 H (Callee X.the-row Y.the-row poppedSays ringPopped poppedOf popFront 𝓤 H (𝓖 .A)) 𝓜 𝓡 code.env #callee callee-def.routine code.calls-ring-buffer·pop-front (callee-thm.met 𝓤 H 𝓜 𝓖 𝓡))
-    (cited 𝓤 H (Conversion X.the-row Y.the-row poppedSays ringPopped poppedOf popFront 𝓤 H (𝓖 .A)) 𝓜 𝓡 code.env #convert convert-def.routine code.calls-flat·ring·popped-of (convert-thm.met 𝓤 H 𝓜 𝓖 𝓡)))
+    stands (bare-call X.the-type X′.the-laws tt Y.the-type Y′.the-laws poppedSays ringPopped poppedOf popFront) 𝓤 H 𝓜 𝓖 𝓡 code.env #self #callee #convert callee-def.routine convert-def.routine
+    (code.unfolded 𝓤 H 𝓜 𝓡) code.calls-ring-buffer·pop-front (callee-thm.met 𝓤 H 𝓜 𝓖 𝓡) code.calls-flat·ring·popped-of (convert-thm.met 𝓤 H 𝓜 𝓖 𝓡)

@@ -1,9 +1,4 @@
--- `bluefin_c::ring::bluefin_ring_push_back` meets its contract: its MIR is `LentRecord.antt`'s shape at `ring_buffer::push_back` and `pushed_of`. Assumes nothing.
-use denote.Enum.Laws as EL
-use denote.Struct.Laws as LL
-use denote.Triple.Spec.{tripleOf}
-use denote.Triple.Table.{entered, cited}
-use contract.Running.{givenOf, tables, tablesOf}
+-- `bluefin_c::ring::bluefin_ring_push_back` meets its contract: its MIR is `Shapes.antt`'s `recorded` at `ring_buffer::push_back` and `pushed_of`. Assumes nothing.
 use Rattle.ring_buffer.specs.Ring.{pushBack}
 use Rattle.ring_buffer.specs.Says.{pushedSays, ringPushed}
 use Rattle.ring_buffer.proofs.Pushed as X
@@ -12,24 +7,19 @@ use Rattle.ring_buffer.proofs.push_back.Symbol as callee-def
 use Rattle.ring_buffer.proofs.push_back.Symbol.{name as #callee}
 use Rattle.ring_buffer.proofs.push_back.Met as callee-thm
 use Rattle.flat.specs.RingAnswers.{pushedOf}
-use Rattle.bluefin_c.proofs.LentRecord.{Callee, Conversion, meets}
 use Rattle.flat.proofs.ring.Pushed as Y
 use Rattle.flat.proofs.ring.Pushed.Laws as Y′
 use Rattle.flat.proofs.ring.pushed_of.Symbol as convert-def
 use Rattle.flat.proofs.ring.pushed_of.Symbol.{name as #convert}
 use Rattle.flat.proofs.ring.pushed_of.Met as convert-thm
+use Rattle.bluefin_c.proofs.Lent.{stands}
+use Rattle.bluefin_c.proofs.Shapes.{recorded-call}
 use Rattle.bluefin_c.proofs.ring.bluefin_ring_push_back.Key.{name as #self}
-use Rattle.bluefin_c.proofs.ring.bluefin_ring_push_back as self
 use Rattle.bluefin_c.proofs.ring.bluefin_ring_push_back.Statement as stated
 use Rattle.bluefin_c.proofs.ring.bluefin_ring_push_back.Code as code
 
 pub bluefin-ring-push-back-spec : {M : Type 1} → stated.statement M
-unfolding code.routine tablesOf
+unfolding code.routine
 bluefin-ring-push-back-spec 𝓤 H 𝓜 𝓖 𝓡 =
-    entered 𝓤 H (tripleOf 𝓤 H (𝓖 .A) self.signature (self.spec 𝓤 H (𝓖 .A) (𝓜 .mem) (𝓡 .run)))
-    (tables 𝓤 H 𝓜 𝓡 code.env .C) (tables 𝓤 H 𝓜 𝓡 code.env .Λ) #self code.function (code.unfolded 𝓤 H 𝓜 𝓡)
-    (meets X.the-row Y.the-row pushedSays ringPushed pushedOf pushBack 𝓤 H (𝓖 .A) (givenOf 𝓤 H 𝓜 𝓖) X′.mir Y′.mir
-    (λ p v is. EL.lawful X.the-type X′.the-laws 𝓤 H (𝓖 .A) (givenOf 𝓤 H 𝓜 𝓖) tt .typed p _ is .0) (λ p v is. LL.lawful Y.the-type Y′.the-laws 𝓤 H (𝓖 .A) (givenOf 𝓤 H 𝓜 𝓖) .typed p _ is .0)
-    #callee #convert (tablesOf 𝓤 H 𝓜 (tables 𝓤 H 𝓜 𝓡 code.env))
-    (cited 𝓤 H (Callee X.the-row Y.the-row pushedSays ringPushed pushedOf pushBack 𝓤 H (𝓖 .A)) 𝓜 𝓡 code.env #callee callee-def.routine code.calls-ring-buffer·push-back (callee-thm.met 𝓤 H 𝓜 𝓖 𝓡))
-    (cited 𝓤 H (Conversion X.the-row Y.the-row pushedSays ringPushed pushedOf pushBack 𝓤 H (𝓖 .A)) 𝓜 𝓡 code.env #convert convert-def.routine code.calls-flat·ring·pushed-of (convert-thm.met 𝓤 H 𝓜 𝓖 𝓡)))
+    stands (recorded-call X.the-type X′.the-laws tt Y.the-type Y′.the-laws pushedSays ringPushed pushedOf pushBack) 𝓤 H 𝓜 𝓖 𝓡 code.env #self #callee #convert callee-def.routine convert-def.routine
+    (code.unfolded 𝓤 H 𝓜 𝓡) code.calls-ring-buffer·push-back (callee-thm.met 𝓤 H 𝓜 𝓖 𝓡) code.calls-flat·ring·pushed-of (convert-thm.met 𝓤 H 𝓜 𝓖 𝓡)
