@@ -58,7 +58,8 @@ row F = ED.row (F .enum)
 abbrev pub part : Field → CloseBuffer → Val
 part F h = getV (parts h) (F .at)
 
-pub part-typed : {M : Type 1} (𝓤 : URA M) (H : Heap 𝓤) (A : Atoms 𝓤) → Given 𝓤 H A → (F : Field) (h : CloseBuffer) (vs : List Val) → Is R h vs → Holds (hasTy (layout (ED.shape (F .enum))) (part F h)) × WT (part F h)
+pub part-typed : {M : Type 1} (𝓤 : URA M) (H : Heap 𝓤) (A : Atoms 𝓤) → Given 𝓤 H A → (F : Field) (h : CloseBuffer) (vs : List Val) → Is R h vs
+    → Holds (hasTy (layout (ED.shape (F .enum))) (part F h)) × WT (part F h)
 part-typed 𝓤 H A W F h vs is = EL.lawful (F .enum) (F .laws) 𝓤 H A W (F .few) .typed (F .get h) _ (F .is-part h vs is) .0
 
 pub part-made : {M : Type 1} (𝓤 : URA M) (H : Heap 𝓤) (A : Atoms 𝓤) (F : Field) → Makes 𝓤 H A (row F) (Is (row F))

@@ -2,4 +2,3 @@ pub mod Getter
 pub mod Laws
 pub mod Lent
 pub mod Thin
-pub mod ThinBare
