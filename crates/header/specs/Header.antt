@@ -1,7 +1,7 @@
 -- The header of 20 bytes: its bytes, what is read from bytes, and what each call says and leaves.
 -- Carries document 01, "The header, last leaf".
 use Prim.Native.Nat.{ℕ, _+_, _*_, _/_, _%_}
-use mathlib.Core.Bool.{Bool, cond, not, _||_}
+use mathlib.Core.Bool.{Bool, false, cond, not, _||_}
 use mathlib.Core.List.{List, [], _∷_, _++_}
 use lib.ListN.{length, getD}
 use lib.Seq.{paste}
@@ -87,6 +87,11 @@ withNumber h n =
       «destination_connection_id» = h .«destination_connection_id»;
       «packet_number» = n;
     }
+
+-- a header that is not encrypted, and has mask 0: every header that the link makes
+abbrev pub plainHeader : ℕ → ℕ → PacketType → ℕ → ℕ → BluefinHeader
+plainHeader source destination type field number =
+    withNumber (headerOf source destination type field (record { «header_encrypted» = false; «header_protection_mask» = 0 })) number
 
 -- What the answers say.
 

@@ -6,7 +6,7 @@ use mathlib.Core.Bool.{true, false}
 use mathlib.Core.List.{List, [], _∷_, _++_, map}
 use lib.ListN.{replicate}
 use Rattle.refusal.specs.Said.{Said, answers, refuses, refusesAt}
-use Rattle.header.specs.Header.{headerBytes, headerOf, withNumber, serialisesSecurity, serialisesInto, deserialises}
+use Rattle.header.specs.Header.{headerBytes, plainHeader, serialisesSecurity, serialisesInto, deserialises}
 use Rattle.header.specs.declared.PacketType.{PacketType}
 use Rattle.header.specs.declared.PacketType.the-variants.{UnencryptedData, Ack}
 use Rattle.header.specs.declared.BluefinHeader.{BluefinHeader}
@@ -24,7 +24,7 @@ use Rattle.ordered_bytes.specs.Calls.{accepting, consuming}
 
 -- a header with version 0 and security byte 0, from source 1 to destination 2
 abbrev pub plain : PacketType → ℕ → ℕ → BluefinHeader
-plain type field number = withNumber (headerOf 1 2 type field (record { «header_encrypted» = false; «header_protection_mask» = 0 })) number
+plain = plainHeader 1 2
 
 -- hexadecimal 03 00 05 00 00 00 00 01 00 00 00 02 00 00 00 00 00 00 00 07
 abbrev pub dataHeaderBytes : List ℕ
