@@ -8,7 +8,7 @@ use borrow.Author.Tests.{ltb-false}
 use Rattle.header.specs.declared.BluefinHeader.{BluefinHeader}
 use Rattle.header.specs.Header.{fieldsTooLarge}
 
-neither : (a b : Bool) → (a || b) ≡ false → (a ≡ false) × (b ≡ false)
+pub neither : (a b : Bool) → (a || b) ≡ false → (a ≡ false) × (b ≡ false)
 neither true b e = absurd (true≢false e)
 neither false b e = (refl, e)
 

@@ -14,7 +14,7 @@ use Rattle.header.specs.declared.PacketType.{PacketType}
 use Rattle.header.specs.declared.BluefinSecurityFields.{BluefinSecurityFields}
 use Rattle.header.specs.declared.BluefinHeader.{BluefinHeader}
 use Rattle.header.specs.Types.{typeOf, rowOf}
-use Rattle.header.specs.Header.{leadingBytes, headerBytes, typeAt, securityOf, headerAt, deserialisesAt}
+use Rattle.header.specs.Header.{leadingBytes, headerBytes, typeAt, fieldAt, packetNumberAt, securityOf, headerAt, deserialisesAt}
 
 module _ (h : BluefinHeader) (d : List ℕ) (at : ℕ) {w a b n d₁ d₂ d₃ d₄ : List ℕ} where
   pub written : at + 20 ≤ length d
@@ -43,11 +43,11 @@ module _ (h : BluefinHeader) (d : List ℕ) (at : ℕ) {w a b n d₁ d₂ d₃ d
 module _ (s : List ℕ) (at : ℕ) {type : PacketType} {field source destination number : ℕ} {security : BluefinSecurityFields} where
   pub found : rowOf (typeAt s at) .known ≡ true
       → type ≡ typeOf (typeAt s at)
-      → field ≡ numberAt s (at + 1) 2
+      → field ≡ fieldAt s at
       → security ≡ securityOf (getD s (at + 3) 0)
       → source ≡ numberAt s (at + 4) 4
       → destination ≡ numberAt s (at + 8) 4
-      → number ≡ numberAt s (at + 12) 8
+      → number ≡ packetNumberAt s at
       → answers
       (record {
         version = getD s at 0 / 16;

@@ -1,9 +1,10 @@
 -- Laws of the packet types: each has a known number, and number and type undo each other.
 -- Assumes nothing.
 use Prim.Native.Nat.{ℕ, zero, suc, _<_}
-use mathlib.Core.Path.{_≡_, refl}
+use mathlib.Core.Path.{_≡_, refl, sym, _∙_}
 use native.Mathlib.Omega.{arith}
-use lib.Dec.{lit<}
+use lib.Dec.{lit<, eqb}
+use borrow.Author.Tests.{ne-eqb}
 use Rattle.header.specs.declared.PacketType.{PacketType}
 use Rattle.header.specs.declared.PacketType.the-variants.{UnencryptedClientHello, UnencryptedServerHello, ClientAck, UnencryptedData, Ack, Fin, FinAck}
 use Rattle.header.specs.Types.{typeNumber, typeOf}
@@ -44,3 +45,13 @@ type-last (suc (suc (suc zero))) a b c d e f = absurd (d refl)
 type-last (suc (suc (suc (suc zero)))) a b c d e f = absurd (e refl)
 type-last (suc (suc (suc (suc (suc zero))))) a b c d e f = absurd (f refl)
 type-last (suc (suc (suc (suc (suc (suc n)))))) a b c d e f = refl
+
+-- a number below 6 is a type's exactly where the type was made of it
+pub type-is : (n k : ℕ) → k < 6 → eqb (typeNumber (typeOf n)) k ≡ eqb n k
+type-is zero k h = refl
+type-is (suc zero) k h = refl
+type-is (suc (suc zero)) k h = refl
+type-is (suc (suc (suc zero))) k h = refl
+type-is (suc (suc (suc (suc zero)))) k h = refl
+type-is (suc (suc (suc (suc (suc zero))))) k h = refl
+type-is (suc (suc (suc (suc (suc (suc n)))))) k h = ne-eqb 6 k (λ e. omega arith) ∙ sym (ne-eqb (suc (suc (suc (suc (suc (suc n)))))) k (λ e. omega arith))

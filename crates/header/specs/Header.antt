@@ -45,9 +45,15 @@ headerBytes h =
     ++ bytesOf 4 (h .«destination_connection_id»)
     ++ bytesOf 8 (h .«packet_number»)
 
--- the type number in the first byte of the header at `at`
+-- type number, field and packet number of the header at `at`: who reads no more of it reads these
 abbrev pub typeAt : List ℕ → ℕ → ℕ
 typeAt s at = getD s at 0 % 16
+
+abbrev pub fieldAt : List ℕ → ℕ → ℕ
+fieldAt s at = numberAt s (at + 1) 2
+
+abbrev pub packetNumberAt : List ℕ → ℕ → ℕ
+packetNumberAt s at = numberAt s (at + 12) 8
 
 -- the header in the 20 bytes of s from `at` on, where its type is known
 unfoldable pub headerAt : List ℕ → ℕ → BluefinHeader
@@ -55,11 +61,11 @@ headerAt s at =
     record {
       version = getD s at 0 / 16;
       «type_field» = typeOf (typeAt s at);
-      «type_specific_payload» = numberAt s (at + 1) 2;
+      «type_specific_payload» = fieldAt s at;
       «security_fields» = securityOf (getD s (at + 3) 0);
       «source_connection_id» = numberAt s (at + 4) 4;
       «destination_connection_id» = numberAt s (at + 8) 4;
-      «packet_number» = numberAt s (at + 12) 8;
+      «packet_number» = packetNumberAt s at;
     }
 
 -- a header made anew has version 0 and number 0

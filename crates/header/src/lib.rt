@@ -1,13 +1,15 @@
 // The header of 20 bytes (core/header.rs), and the table of the sixteen packet types.
 // Proved: every call says and leaves what its definition in specs/Header.antt does, and the table keeps its rule at each row.
 ghost use mathlib.Core.Path.{_≡_};
-ghost use Prim.Native.Nat.{ℕ, _+_, _%_, _<_, _≤_};
+ghost use Prim.Native.Nat.{ℕ, _+_, _<_, _≤_};
 ghost use mathlib.Core.List.{List};
 ghost use lib.ListN.{length};
 ghost use lib.Seq.{paste};
 ghost use Rattle.refusal.specs.Said.{Said};
 ghost use Rattle.header.specs.Types.{typeNumber, typeOf, rowOf, TypeTable};
-ghost use Rattle.header.specs.Header.{securityByte, securityOf, leadingBytes, headerBytes, headerOf, withNumber, securityWrittenSays, securityReadSays, headerWrittenSays, headerReadSays, serialisesSecurity, deserialisesSecurity, fieldsTooLarge, serialisesInto, deserialisesAt, deserialises};
+ghost use Rattle.header.specs.Header.{securityByte, securityOf, leadingBytes, headerBytes, typeAt, fieldAt, packetNumberAt, headerOf, withNumber};
+ghost use Rattle.header.specs.Header.{securityWrittenSays, securityReadSays, headerWrittenSays, headerReadSays};
+ghost use Rattle.header.specs.Header.{serialisesSecurity, deserialisesSecurity, fieldsTooLarge, serialisesInto, deserialisesAt, deserialises};
 use refusal::Refusal;
 
 pub enum PacketType {
@@ -61,13 +63,13 @@ pub fn type_table() -> [u8; 16]
     TYPES
 }
 
-// The row of the type in a header's first byte, from the table lent.
-pub fn row_in_unchecked(table: &[u8; 16], first: u8) -> TypeRow
-    requires { ⌜ TypeTable (now table) ⌝ }
-    ensures { λ r. ⌜ r ≡ rowOf (first % 16) ⌝ }
+// The row of a type number that four bits hold, from the table lent.
+pub fn row_in_unchecked(table: &[u8; 16], number: u8) -> TypeRow
+    requires { ⌜ TypeTable (now table) × (number < 16) ⌝ }
+    ensures { λ r. ⌜ r ≡ rowOf number ⌝ }
 {
-    let number = (first % 16) as usize;
-    let kind = table[number];
+    let place = number as usize;
+    let kind = table[place];
     TypeRow {
         known: kind != UNKNOWN,
         has_payload: kind == WITH_PAYLOAD,
@@ -75,11 +77,12 @@ pub fn row_in_unchecked(table: &[u8; 16], first: u8) -> TypeRow
 }
 
 // The same where one header is read.
-fn type_row(first: u8) -> TypeRow
-    ensures { λ r. ⌜ r ≡ rowOf (first % 16) ⌝ }
+fn type_row(number: u8) -> TypeRow
+    requires { ⌜ number < 16 ⌝ }
+    ensures { λ r. ⌜ r ≡ rowOf number ⌝ }
 {
     let table = type_table();
-    row_in_unchecked(&table, first)
+    row_in_unchecked(&table, number)
 }
 
 // core/header.rs, `PacketType as u8`.
@@ -97,9 +100,8 @@ pub fn type_number(t: PacketType) -> u8
     }
 }
 
-// core/header.rs, `PacketType::from_u8`, which panics from 7 on: the table refuses those before this is called.
-fn type_of(n: u8) -> PacketType
-    requires { ⌜ n < 7 ⌝ }
+// core/header.rs, `PacketType::from_u8`, which panics from 7 on. Here those stand for the last type: the callers refuse them.
+pub fn type_of(n: u8) -> PacketType
     ensures { λ r. ⌜ r ≡ typeOf n ⌝ }
 {
     match n {
@@ -111,6 +113,28 @@ fn type_of(n: u8) -> PacketType
         5 => PacketType::Fin,
         _ => PacketType::FinAck,
     }
+}
+
+// What is read of the header at a cursor by itself. That its 20 bytes are there is the caller's to check.
+pub fn type_at_unchecked(bytes: &[u8], at: usize) -> u8
+    requires { ⌜ at + 20 ≤ length (now bytes) ⌝ }
+    ensures { λ r. ⌜ r ≡ typeAt (now (bytes .entry)) at ⌝ }
+{
+    bytes[at] % 16
+}
+
+pub fn field_at_unchecked(bytes: &[u8], at: usize) -> u16
+    requires { ⌜ at + 20 ≤ length (now bytes) ⌝ }
+    ensures { λ r. ⌜ r ≡ fieldAt (now (bytes .entry)) at ⌝ }
+{
+    parts::get2(bytes, at + 1)
+}
+
+pub fn number_at_unchecked(bytes: &[u8], at: usize) -> u64
+    requires { ⌜ at + 20 ≤ length (now bytes) ⌝ }
+    ensures { λ r. ⌜ r ≡ packetNumberAt (now (bytes .entry)) at ⌝ }
+{
+    parts::get8(bytes, at + 12)
 }
 
 // The security byte's fields. A mask above 127 may be held; writing refuses it.
@@ -304,17 +328,17 @@ impl BluefinHeader {
         ensures { λ r. ⌜ headerReadSays r ≡ deserialisesAt (now (bytes .entry)) at ⌝ }
     {
         let first = bytes[at];
-        let number = first % 16;
-        let row = type_row(first);
+        let number = type_at_unchecked(bytes, at);
+        let row = type_row(number);
         if row.known {
             HeaderRead::Header(BluefinHeader {
                 version: first / 16,
                 type_field: type_of(number),
-                type_specific_payload: parts::get2(bytes, at + 1),
+                type_specific_payload: field_at_unchecked(bytes, at),
                 security_fields: BluefinSecurityFields::of_byte(bytes[at + 3]),
                 source_connection_id: parts::get4(bytes, at + 4),
                 destination_connection_id: parts::get4(bytes, at + 8),
-                packet_number: parts::get8(bytes, at + 12),
+                packet_number: number_at_unchecked(bytes, at),
             })
         } else {
             HeaderRead::Refused(Refusal::UnknownType, at)

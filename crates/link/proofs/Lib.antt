@@ -1,7 +1,6 @@
 pub mod All
 pub mod Runs
 pub mod Invariant
-pub mod Parsing
 pub mod Sender
 pub mod Receiver
 pub mod Window

@@ -19,6 +19,7 @@ use Rattle.lists.proofs.Pad.{getD-all, getD-moved}
 use Rattle.lists.proofs.Flatten.{flatten-append}
 use Rattle.lists.proofs.Lookup.{lookup-append, lookup-drop}
 use Rattle.packet.specs.Packet.{Packet}
+use Rattle.packet.proofs.Walk.{parse-well}
 use Rattle.ordered_bytes.specs.declared.OrderedBytes.{OrderedBytes}
 use Rattle.ordered_bytes.specs.Receiver.{Receiver, isHeld, placeAt, accepted, payloads, consumed}
 use Rattle.ordered_bytes.specs.Buffer.{Buffer, view, wellFormed}
@@ -38,7 +39,6 @@ use Rattle.link.specs.Demand3.{ReceiverSide, ReceiverCall, Parser, from-
 use Rattle.link.specs.Demand3.{withBuffer, withAccepted, withDelivered, withAcks, withCounted, acceptedOne, acceptedAll, acceptRefusals, ackOf, gave, callReceiver}
 use Rattle.link.specs.Demand3.{indexedOn, refusals, step, run, In, All, MadeEarlier, FairReceiver, Reads, reads, reads-pieces, Stops}
 use Rattle.link.proofs.All.{only, all-map, all-drop, all-append, all-among}
-use Rattle.link.proofs.Parsing.{parse-well}
 use Rattle.link.proofs.Invariant.{Below, ReceiverKeeps}
 
 -- ---- lists

@@ -11,7 +11,7 @@ use lib.ListN.{take, replicate}
 use Rattle.refusal.specs.Said.{Said, answers}
 use Rattle.header.specs.Header.{headerAt, headerBytes}
 use Rattle.packet.specs.Packet.{Packet, joined}
-use Rattle.packet.specs.Datagram.{readingLimit, payloadMissing, walkBy, packetsOf, flat, parsed, listed}
+use Rattle.packet.specs.Datagram.{readingLimit, payloadMissing, walkBy, packetsOf, flat, parsed, packetAt, listed}
 use Rattle.writer.specs.Packing.{payloadSize, byteLimit, cut, numbered, dataPacket, removal, shortened, sum, packing}
 use Rattle.writer.specs.declared.DataPacked.{DataPacked}
 use Rattle.ordered_bytes.specs.Receiver as receiver
@@ -189,7 +189,7 @@ unreserved : {A : Type 0} → false ≡ true → A
 unreserved e = absurd (false≢true e)
 
 pub computed : Computed
-unfolding run trace Fairly All In dataOf acceptedAll acceptRefusals Accepted headerAt headerBytes joined readingLimit payloadMissing walkBy packetsOf flat parsed listed payloadSize byteLimit
+unfolding run trace Fairly All In dataOf acceptedAll acceptRefusals Accepted headerAt headerBytes joined readingLimit payloadMissing walkBy packetsOf flat parsed packetAt listed payloadSize byteLimit
     cut numbered removal shortened sum packing receiver.walk receiver.consumed receiver.payloads receiver.numbersFit buffer.view buffer.allWithin buffer.wellFormed
     creating accepting peeking consuming consumingBytes flatten window.member window.rising window.allHoldable window.wellFormed window.place window.numbers
     window.insertPacketNumber window.beforeHeld window.insertRange window.runLength window.consume

@@ -8,7 +8,7 @@ use packet::Parsed;
 use refusal::Refusal;
 ghost use Prim.Native.Nat.{_+_, _≤_};
 ghost use lib.ListN.{length};
-ghost use Rattle.listing.specs.Lists.{Lists};
+ghost use Rattle.packet.specs.Datagram.{Listed};
 
 // One byte more than the longest datagram, so that a longer one is seen to be too long.
 const READ_LEN: usize = packet::READING_LIMIT + 1;
@@ -39,7 +39,7 @@ fn print_parsed(datagram: &[u8], index: &mut [u32]) {
 }
 
 fn print_packets(datagram: &[u8], index: &[u32], n: usize)
-    requires { ⌜ Lists (now datagram) (now index) n ⌝ }
+    requires { ⌜ Listed (now datagram) (now index) n ⌝ }
 {
     let mut i = 0;
     while i < n {

@@ -7,14 +7,21 @@ use mathlib.Core.Bool.{Bool, true, false, cond}
 use mathlib.Core.List.{List, [], _∷_, _++_, map}
 use native.Mathlib.Omega.{arith}
 use native.Mathlib.Decide.{decLe}
-use lib.ListN.{length, getD, take, drop, length-take}
-use lib.Seq.{sets-eq, length-sets, getD-take, take-all}
-use lib.Dec.{ltb}
+use native.Mathlib.Nat.{add-zero}
+use lib.ListN.{length, getD, take, drop, length-take, length-drop}
+use lib.Seq.{sets-eq, length-sets, getD-take, getD-drop, drop-drop, take-all}
+use lib.Dec.{ltb, eqb}
 use borrow.Author.Tests.{ltb-false, le-ltb}
 use Rattle.refusal.specs.Said.{Said, answers, refuses, refusesAt}
+use Rattle.lists.specs.Numbers.{largest}
+use Rattle.lists.proofs.Bytes.{Bytes}
 use Rattle.lists.proofs.Table.{Every, every-at}
+use Rattle.header.specs.Types.{typeNumber}
+use Rattle.header.specs.Header.{typeAt, fieldAt, packetNumberAt, headerAt}
+use Rattle.header.specs.declared.BluefinHeader.{BluefinHeader}
+use Rattle.header.proofs.Types.{type-is}
 use Rattle.packet.specs.Packet.{Packet}
-use Rattle.packet.specs.Datagram.{readingLimit, packetsOf, cellsIn, flat, counted, parsed, cellsWritten, parsesInto, parses, packetAt, listed}
+use Rattle.packet.specs.Datagram.{readingLimit, packetsOf, cellsIn, flat, counted, parsed, cellsWritten, parsesInto, parses, packetAt, listed, Listed}
 use Rattle.packet.proofs.Walk.{walk-all, begin-long}
 
 -- header and payload of a cell lie within the datagram
@@ -23,13 +30,13 @@ Within s c = c .0 + 20 + c .1 ≤ length s
 
 module _ (s : List ℕ) where
   pub within : Every (λ k. Within s) 0 (packetsOf s .cells)
-  within = walk-all s (λ at w. (i : ℕ) → Every (λ k. Within s) i (w .cells)) (λ at e i. tt) (λ at len w h each i. (h, each (suc i))) 0
+  within = walk-all s (λ at w. (i : ℕ) → Every (λ k. Within s) i (w .cells)) (λ at e never i. tt) (λ at len w h each i. (h, each (suc i))) 0
 
   -- every packet has 20 bytes or more
   few-cells : length (packetsOf s .cells) ≤ readingLimit / 20
   few-cells =
       let fits : 20 * length (packetsOf s .cells) ≤ length s - 0 =
-      walk-all s (λ at w. 20 * length (w .cells) ≤ length s - at) (λ at e. omega arith) (λ at len w h few. omega arith) in
+      walk-all s (λ at w. 20 * length (w .cells) ≤ length s - at) (λ at e never. omega arith) (λ at len w h few. omega arith) in
       elim (decLe (length s) readingLimit) [
         | yes short ↦ omega arith
         | no long ↦ rw (begin-long s (omega arith)) (omega arith)
@@ -56,7 +63,68 @@ flat-at (c ∷ cs) rest (suc i) h =
     let first : 2 * suc i ≡ suc (suc (2 * i)) = omega arith in
     rw (second, first) (flat-at cs rest i (omega arith))
 
+-- ---- the packets that cells name: no other law opens `packetAt` or `listed`; samples compute them
+
+module _ (s : List ℕ) (at len : ℕ) where
+  pub packet-is : {h : BluefinHeader} {payload : List ℕ} → headerAt s at ≡ h → take len (drop (at + 20) s) ≡ payload → packetAt s (at, len) ≡ record { header = h; payload = payload }
+  unfolding packetAt
+  packet-is h p = rw (h, p)
+
+  pub header-is : packetAt s (at, len) .header ≡ headerAt s at
+  unfolding packetAt
+  header-is = refl
+
+  pub payload-is : packetAt s (at, len) .payload ≡ take len (drop (at + 20) s)
+  unfolding packetAt
+  payload-is = refl
+
+  pub number-is : packetAt s (at, len) .header .«packet_number» ≡ packetNumberAt s at
+  unfolding packetAt headerAt
+  number-is = refl
+
+  pub field-is : packetAt s (at, len) .header .«type_specific_payload» ≡ fieldAt s at
+  unfolding packetAt headerAt
+  field-is = refl
+
+  pub has-type : (k : ℕ) → k < 6 → eqb (typeNumber (packetAt s (at, len) .header .«type_field»)) k ≡ eqb (typeAt s at) k
+  unfolding packetAt headerAt
+  has-type = type-is (typeAt s at)
+
 module _ (s : List ℕ) where
+  pub none-listed : (index : List ℕ) → listed s index 0 ≡ []
+  unfolding listed
+  none-listed index = refl
+
+  pub number-fits : Bytes s → (c : ℕ × ℕ) → packetAt s c .header .«packet_number» ≤ largest
+  unfolding packetAt headerAt
+  number-fits b c =
+      let a = c .0 + 12 in
+      omega (arith, b a, b (a + 1), b (a + 2), b (a + 3), b (a + 4), b (a + 5), b (a + 6), b (a + 7))
+
+  -- what holds of every packet that a cell can name holds of each that is listed
+  pub every-listed : (P : Packet → Type 0) → ((c : ℕ × ℕ) → P (packetAt s c)) → (index : List ℕ) (n i : ℕ) → Every (λ k. P) i (listed s index n)
+  unfolding listed
+  every-listed P each index zero i = tt
+  every-listed P each [] (suc n) i = tt
+  every-listed P each (o ∷ []) (suc n) i = tt
+  every-listed P each (o ∷ l ∷ index) (suc n) i = (each (o, l), every-listed P each index n (suc i))
+
+  listed-first : (index : List ℕ) (n : ℕ) → 2 ≤ length index → listed s index (suc n) ≡ packetAt s (getD index 0 0, getD index 1 0) ∷ listed s (drop 2 index) n
+  unfolding listed
+  listed-first [] n h = absurd (omega arith)
+  listed-first (o ∷ []) n h = absurd (omega arith)
+  listed-first (o ∷ l ∷ index) n h = refl
+
+  -- the packets from the i-th on, the first of them apart
+  pub listed-next : (index : List ℕ) (i n : ℕ) → i < n → 2 * n ≤ length index
+      → listed s (drop (2 * i) index) (n - i) ≡ packetAt s (getD index (2 * i) 0, getD index (2 * i + 1) 0) ∷ listed s (drop (2 * (i + 1)) index) (n - (i + 1))
+  listed-next index i n h k =
+      let more : n - i ≡ suc (n - (i + 1)) = omega arith in
+      let offset : getD (drop (2 * i) index) 0 0 ≡ getD index (2 * i) 0 = getD-drop (2 * i) index 0 0 ∙ rw add-zero in
+      let next : 2 * i + 2 ≡ 2 * (i + 1) = omega arith in
+      let left : drop 2 (drop (2 * i) index) ≡ drop (2 * (i + 1)) index = drop-drop 2 (2 * i) index ∙ rw next in
+      rw more (listed-first (drop (2 * i) index) (n - (i + 1)) (rw length-drop (omega arith)) ∙ rw (offset, getD-drop (2 * i) index 1 0, left))
+
   listed-flat : (cs : List (ℕ × ℕ)) (rest : List ℕ) → listed s (flat cs ++ rest) (length cs) ≡ map (packetAt s) cs
   unfolding flat listed
   listed-flat [] rest = refl
@@ -77,16 +145,20 @@ module _ (s : List ℕ) where
         rw (written, sym (length-take (cellsIn index) (packetsOf s .cells))) (listed-flat cs _)
 
     -- they are there, and each lies within the datagram
-    pub written-there : 2 * cellsWritten s index ≤ length (parsesInto s index .1)
-    written-there = rw length-sets (omega arith)
+    pub lists-into : Listed s (parsesInto s index .1) (cellsWritten s index)
+    lists-into = record { cells = rw length-sets (omega arith); within = here }
+      where
+        here : (i : ℕ) → i < cellsWritten s index → Within s (getD (parsesInto s index .1) (2 * i) 0, getD (parsesInto s index .1) (2 * i + 1) 0)
+        here i h =
+            let cs = take (cellsIn index) (packetsOf s .cells) in
+            let cell = ap (λ (x : List ℕ). (getD x (2 * i) 0, getD x (2 * i + 1) 0)) written
+            ∙ flat-at cs _ i (rw length-take h)
+            ∙ getD-take (cellsIn index) (packetsOf s .cells) i (0, 0) (omega arith) in
+            subst (Within s) (sym cell) (every-at (λ k. Within s) (0, 0) (packetsOf s .cells) (within s) i (omega arith))
 
-    pub written-within : (i : ℕ) → i < cellsWritten s index → Within s (getD (parsesInto s index .1) (2 * i) 0, getD (parsesInto s index .1) (2 * i + 1) 0)
-    written-within i h =
-        let cs = take (cellsIn index) (packetsOf s .cells) in
-        let cell = ap (λ (x : List ℕ). (getD x (2 * i) 0, getD x (2 * i + 1) 0)) written
-        ∙ flat-at cs _ i (rw length-take h)
-        ∙ getD-take (cellsIn index) (packetsOf s .cells) i (0, 0) (omega arith) in
-        subst (Within s) (sym cell) (every-at (λ k. Within s) (0, 0) (packetsOf s .cells) (within s) i (omega arith))
+-- the header of a listed packet lies within the datagram
+pub header-within : {s index : List ℕ} {n : ℕ} → Listed s index n → (i : ℕ) → i < n → getD index (2 * i) 0 + 20 ≤ length s
+header-within l i h = omega (arith, l .within i h)
 
 -- where parsing answers a count, it is the count of all packets, each has its cell, and the walk came to the end
 pub record Answered (s : List ℕ) (room n : ℕ) : Type 0 where
@@ -114,7 +186,7 @@ module _ (s index : List ℕ) {n : ℕ} (e : parsed s (cellsIn index) ≡ answer
       let a = answered-all s (cellsIn index) n e in
       take-all (cellsIn index) (packetsOf s .cells) (omega (arith, a .all, a .fits))
 
-  all-written : cellsWritten s index ≡ n
+  pub all-written : cellsWritten s index ≡ n
   all-written = let a = answered-all s (cellsIn index) n e in omega (arith, a .all, a .fits)
 
   pub listed-all : listed s (parsesInto s index .1) n ≡ map (packetAt s) (packetsOf s .cells)
@@ -123,8 +195,5 @@ module _ (s index : List ℕ) {n : ℕ} (e : parsed s (cellsIn index) ≡ answer
   pub listed-parsed : listed s (parses s index .1) n ≡ map (packetAt s) (packetsOf s .cells)
   listed-parsed = rw e listed-all
 
-  pub cells-there : 2 * n ≤ length (parses s index .1)
-  cells-there = rw (e, sym all-written) (written-there s index)
-
-  pub cell-within : (i : ℕ) → i < n → Within s (getD (parses s index .1) (2 * i) 0, getD (parses s index .1) (2 * i + 1) 0)
-  cell-within i h = rw e (written-within s index i (rw all-written h))
+  pub lists-parsed : Listed s (parses s index .1) n
+  lists-parsed = rw (e, sym all-written) (lists-into s index)

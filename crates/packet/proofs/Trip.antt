@@ -10,18 +10,18 @@ use lib.Seq.{drop-at, drop-drop, take-at}
 use borrow.Author.Tests.{lt-ltb, le-ltb}
 use Rattle.refusal.specs.Said.{answers}
 use Rattle.header.specs.Types.{typeNumber, rowOf}
-use Rattle.header.specs.Header.{headerBytes, typeAt, headerAt}
+use Rattle.header.specs.Header.{headerBytes, typeAt, fieldAt, headerAt}
 use Rattle.header.specs.declared.BluefinHeader.{BluefinHeader}
 use Rattle.header.proofs.Types.{number-known}
 use Rattle.header.proofs.Trip.{Sized, length-header, read-at, type-read}
 use Rattle.packet.specs.Packet.{Packet, packetBytes, joined}
 use Rattle.packet.specs.declared.Look.the-variants as look
-use Rattle.packet.specs.Datagram.{Walk, walkAt, fieldAt, readingLimit, packetsOf, cellsIn, parsed, parses, packetAt, listed}
-use Rattle.packet.specs.Step.{Looked}
+use Rattle.packet.specs.Datagram.{Walk, walkAt, readingLimit, packetsOf, cellsIn, parsed, parses, packetAt, listed}
+use Rattle.packet.specs.Step.{lookAt}
 use Rattle.packet.proofs.Alone.{length-packet}
 use Rattle.packet.proofs.Step.{at-end, at-bare, at-whole-payload}
 use Rattle.packet.proofs.Walk.{walk-end, walk-packet, begin-walk}
-use Rattle.packet.proofs.Index.{listed-parsed}
+use Rattle.packet.proofs.Index.{packet-is, listed-parsed}
 
 -- whether a packet of this header's type has a payload
 abbrev pub hasPayload : BluefinHeader → Bool
@@ -62,20 +62,20 @@ module _ (s : List ℕ) (at : ℕ) (p : Packet) (rest : List ℕ) (h : Honest p)
   packet-read =
       let payload : take (length (p .payload)) (drop (at + 20) s) ≡ p .payload =
       rw (sym (drop-drop 20 at s)) (rw (behind, drop-at (headerBytes (p .header)) (p .payload ++ rest) 20 (length-header (p .header))) (take-at (p .payload) rest (length (p .payload)) refl)) in
-      ap₂ (λ (x : BluefinHeader) (y : List ℕ). record { header = x; payload = y }) header-read payload
+      packet-is s at (length (p .payload)) header-read payload
 
   field-read : fieldAt s at ≡ p .header .«type_specific_payload»
   unfolding headerAt
   field-read = ap (λ (x : BluefinHeader). x .«type_specific_payload») header-read
 
-  looked : (hasPayload (p .header) ≡ true → 0 < length (p .payload) + length rest) → Looked s at (look.Packet (length (p .payload)))
+  looked : (hasPayload (p .header) ≡ true → 0 < length (p .payload) + length rest) → lookAt s at ≡ look.Packet (length (p .payload))
   looked some =
       let type : typeAt s at ≡ typeNumber (p .header .«type_field») = type-read (p .header) (h .sized) s (p .payload ++ rest) at behind in
       let known : rowOf (typeAt s at) .known ≡ true = rw type (lt-ltb _ 7 (number-known (p .header .«type_field»))) in
       by known type (hasPayload (p .header)) refl
     where
       by : rowOf (typeAt s at) .known ≡ true → typeAt s at ≡ typeNumber (p .header .«type_field») → (t : Bool) → hasPayload (p .header) ≡ t
-          → Looked s at (look.Packet (length (p .payload)))
+          → lookAt s at ≡ look.Packet (length (p .payload))
       by known type true e =
           let long : length (p .payload) ≡ fieldAt s at = h .long ∙ rw e (sym field-read) in
           rw long (at-whole-payload s at (omega (arith, left)) known (rw type e) (omega (arith, left, some e)) (omega (arith, left)))

@@ -1,15 +1,14 @@
 -- The packets of a datagram: document 01, "From a datagram to packets"; `from_bytes` and `from_bytes_into` of core/packet.rs.
-use Prim.Native.Nat.{ℕ, zero, suc, _+_, _-_, _/_, min}
+use Prim.Native.Nat.{ℕ, zero, suc, _+_, _-_, _*_, _/_, _<_, _≤_, min}
 use mathlib.Core.Bool.{Bool, not, cond, _&&_, _||_}
 use mathlib.Core.List.{List, [], _∷_}
-use lib.ListN.{length, take, drop}
+use lib.ListN.{length, getD, take, drop}
 use lib.Seq.{sets}
 use lib.Dec.{ltb, leb}
 use Rattle.refusal.specs.Refusal.{numberOf}
 use Rattle.refusal.specs.Said.{Said, answers, refuses, refusesAt, checks}
-use Rattle.parts.specs.BigEndian.{numberAt}
 use Rattle.header.specs.Types.{rowOf}
-use Rattle.header.specs.Header.{typeAt, headerAt}
+use Rattle.header.specs.Header.{typeAt, fieldAt, headerAt}
 use Rattle.packet.specs.Packet.{Packet}
 use Rattle.packet.specs.declared.Parsed.{Parsed}
 use Rattle.packet.specs.declared.Parsed.the-variants as parsedAs
@@ -19,9 +18,6 @@ unfoldable pub readingLimit : ℕ
 readingLimit = 65527
 
 -- ---- one packet of a datagram
-
-abbrev pub fieldAt : List ℕ → ℕ → ℕ
-fieldAt s at = numberAt s (at + 1) 2
 
 -- "refusal 2 if cursor + 20, or cursor + 19 + field, reaches the length or more"
 unfoldable pub payloadMissing : ℕ → ℕ → ℕ → Bool
@@ -118,7 +114,8 @@ parsedSays (parsedAs.RefusedAt r at) = refusesAt (numberOf r) at
 
 -- ---- the packets that an index lists
 
-abbrev pub packetAt : List ℕ → ℕ × ℕ → Packet
+-- the packet that a cell names; its laws, and those of `listed`, are in proofs/Index.antt
+unfoldable pub packetAt : List ℕ → ℕ × ℕ → Packet
 packetAt s c = record { header = headerAt s (c .0); payload = take (c .1) (drop (c .0 + 20) s) }
 
 -- the packets of the first n cells
@@ -127,3 +124,8 @@ listed s index zero = []
 listed s [] (suc n) = []
 listed s (o ∷ []) (suc n) = []
 listed s (o ∷ l ∷ index) (suc n) = packetAt s (o, l) ∷ listed s index n
+
+-- what a loop over an index has to know of it: the first n cells are there, and the packet that each names lies within the datagram
+pub record Listed (s index : List ℕ) (n : ℕ) : Type 0 where
+  pub cells : 2 * n ≤ length index
+  pub within : (i : ℕ) → i < n → getD index (2 * i) 0 + 20 + getD index (2 * i + 1) 0 ≤ length s

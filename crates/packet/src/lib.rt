@@ -13,7 +13,7 @@ ghost use Rattle.header.specs.Header.{headerReadSays};
 ghost use Rattle.header.specs.Types.{TypeTable};
 ghost use Rattle.packet.specs.Packet.{serialisesInto, deserialises, payloadOf, packetWrittenSays};
 ghost use Rattle.packet.specs.Datagram.{parsed, parses, parsesInto, indexes, parsedSays};
-ghost use Rattle.packet.specs.Step.{Looked};
+ghost use Rattle.packet.specs.Step.{lookAt, Stepped};
 
 // RFC 768's longest length, less the 8 bytes of its header.
 pub const READING_LIMIT: usize = 65527;
@@ -84,7 +84,7 @@ enum Look {
 // The table of types is lent, so that a walk builds it once and not for each packet.
 fn look_at(datagram: &[u8], at: usize, types: &[u8; 16]) -> Look
     requires { ⌜ (at ≤ length (now datagram)) × TypeTable (now types) ⌝ }
-    ensures { λ r. ⌜ Looked (now (datagram .entry)) at r ⌝ }
+    ensures { λ r. ⌜ r ≡ lookAt (now (datagram .entry)) at ⌝ }
 {
     let left = datagram.len() - at;
     if left == 0 {
@@ -93,14 +93,14 @@ fn look_at(datagram: &[u8], at: usize, types: &[u8; 16]) -> Look
     if left < 20 {
         return Look::Fault(Refusal::Tail);
     }
-    let row = header::row_in_unchecked(types, datagram[at]);
+    let row = header::row_in_unchecked(types, header::type_at_unchecked(datagram, at));
     if !row.known {
         return Look::Fault(Refusal::UnknownType);
     }
     if !row.has_payload {
         return Look::Packet(0);
     }
-    let field = parts::get2(datagram, at + 1) as usize;
+    let field = header::field_at_unchecked(datagram, at) as usize;
     if left <= 20 {
         return Look::Fault(Refusal::PayloadMissing);
     }
@@ -108,6 +108,30 @@ fn look_at(datagram: &[u8], at: usize, types: &[u8; 16]) -> Look
         return Look::Fault(Refusal::PayloadMissing);
     }
     Look::Packet(field)
+}
+
+// The walk behind a packet met, with its payload's length and the next cursor; or its answer.
+enum Advance {
+    Met(usize, usize),
+    Ended(Parsed),
+}
+
+// One step of the walk, n packets having been met and the index having `room` cells.
+fn step_at(datagram: &[u8], room: usize, at: usize, n: usize, types: &[u8; 16]) -> Advance
+    requires { ⌜ (at ≤ length (now datagram)) × (n ≤ room) × TypeTable (now types) ⌝ }
+    ensures { λ r. ⌜ Stepped (now (datagram .entry)) room at n r ⌝ }
+{
+    let found = look_at(datagram, at, types);
+    match found {
+        Look::End => Advance::Ended(Parsed::Packets(n)),
+        Look::Fault(r) => Advance::Ended(Parsed::RefusedAt(r, at)),
+        Look::Packet(payload) => {
+            if n >= room {
+                return Advance::Ended(Parsed::Refused(Refusal::BufferShort));
+            }
+            Advance::Met(payload, at + 20 + payload)
+        }
+    }
 }
 
 // The packets of a datagram, counted, where the index has `room` cells: every check of the walk, and nothing written.
@@ -124,20 +148,14 @@ fn count(datagram: &[u8], room: usize) -> Parsed
     let mut at = 0;
     let mut n = 0;
     loop {
-        let found = look_at(datagram, at, &types);
+        let found = step_at(datagram, room, at, n, &types);
         match found {
-            Look::End => {
-                return Parsed::Packets(n);
+            Advance::Ended(answer) => {
+                return answer;
             }
-            Look::Fault(r) => {
-                return Parsed::RefusedAt(r, at);
-            }
-            Look::Packet(payload) => {
-                if n >= room {
-                    return Parsed::Refused(Refusal::BufferShort);
-                }
+            Advance::Met(_, next) => {
                 n += 1;
-                at = at + 20 + payload;
+                at = next;
             }
         }
     }
@@ -170,32 +188,20 @@ pub fn index_packets(datagram: &[u8], index: &mut [u32]) -> Indexed
     let mut at = 0;
     let mut n = 0;
     loop {
-        let found = look_at(datagram, at, &types);
+        let found = step_at(datagram, room, at, n, &types);
         match found {
-            Look::End => {
+            Advance::Ended(answer) => {
                 return Indexed {
-                    answer: Parsed::Packets(n),
+                    answer: answer,
                     cells: n,
                 };
             }
-            Look::Fault(r) => {
-                return Indexed {
-                    answer: Parsed::RefusedAt(r, at),
-                    cells: n,
-                };
-            }
-            Look::Packet(payload) => {
-                if n >= room {
-                    return Indexed {
-                        answer: Parsed::Refused(Refusal::BufferShort),
-                        cells: n,
-                    };
-                }
+            Advance::Met(payload, next) => {
                 let cell = 2 * n;
                 index[cell] = at as u32;
                 index[cell + 1] = payload as u32;
                 n += 1;
-                at = at + 20 + payload;
+                at = next;
             }
         }
     }

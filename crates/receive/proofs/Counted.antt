@@ -8,17 +8,17 @@ use lib.ListN.{length}
 use lib.Dec.{ltb}
 use Rattle.refusal.specs.Said.{Said, answers, refuses}
 use Rattle.packet.specs.Packet.{Packet}
-use Rattle.packet.specs.Datagram.{cellsIn, cellsWritten, parsesInto, listed}
-use Rattle.packet.proofs.Index.{answered-all}
+use Rattle.packet.specs.Datagram.{cellsIn, cellsWritten, parsesInto}
+use Rattle.packet.proofs.Index.{all-written}
 use Rattle.ordered_bytes.specs.Buffer.{Buffer}
 use Rattle.ordered_bytes.specs.Buffer as buffer
 use Rattle.window.specs.Window as window
 use Rattle.window.specs.declared.SlidingWindow.{SlidingWindow}
-use Rattle.receive.specs.Datagram.{Reception, accepts, enters, takesAll, takesDatagram, receiving, receivingAcks}
+use Rattle.receive.specs.Datagram.{Reception, acksOf, accepts, enters, progress, takesListed, takesDatagram, receiving, receivingAcks}
 
 module _ (s index : List ℕ) {n : ℕ} where
   pub listing-counted : parsesInto s index .0 ≡ answers n → cellsWritten s index ≡ n
-  listing-counted e = let a = answered-all s (cellsIn index) n e in omega (arith, a .all, a .fits)
+  listing-counted e = all-written s index e
 
   whole-counted : {S : Type 0} (well : Bool) (type : ℕ) (call : S → Packet → Said Unit × S) (state : S) (given : List ℕ) →
       let r = takesDatagram well type call state s index given in
@@ -27,7 +27,7 @@ module _ (s index : List ℕ) {n : ℕ} where
   whole-counted {S} true type call state given e = by (ltb (length given) (cellsIn index)) e
     where
       by : (t : Bool) →
-          let taken = takesAll type call 0 (listed s (parsesInto s index .1) (cellsWritten s index)) (record { state = state; answers = given }) in
+          let taken = takesListed type call s (parsesInto s index .1) (cellsWritten s index) (progress state given) in
           let short : Reception S = record { said = refuses 10; cells = 0; index = index; answers = given; state = state } in
           let whole : Reception S = record { said = parsesInto s index .0; cells = cellsWritten s index; index = parsesInto s index .1; answers = taken .answers; state = taken .state } in
           cond t short whole .said ≡ answers n → cond t short whole .cells ≡ n
@@ -41,4 +41,4 @@ module _ (s index : List ℕ) {n : ℕ} where
   pub receive-acks-counted : (w : SlidingWindow) (cells given : List ℕ) → receivingAcks w cells s index given .said ≡ answers n
       → receivingAcks w cells s index given .cells ≡ n
   unfolding receivingAcks
-  receive-acks-counted w cells given = whole-counted (window.wellFormed w cells) 4 enters (record { window = w; cells = cells }) given
+  receive-acks-counted w cells given = whole-counted (window.wellFormed w cells) 4 enters (acksOf w cells) given

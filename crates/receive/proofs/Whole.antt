@@ -9,10 +9,9 @@ use lib.ListN.{length}
 use borrow.Author.Tests.{lt-ltb, le-ltb}
 use Rattle.refusal.specs.Said.{Said, refuses}
 use Rattle.packet.specs.Packet.{Packet}
-use Rattle.packet.specs.Datagram.{cellsIn, cellsWritten, parsesInto, indexes, listed}
-use Rattle.packet.proofs.Index.{written-there, written-within}
-use Rattle.receive.specs.Datagram.{Progress, Reception, takesAll, takesDatagram}
-use Rattle.receive.specs.Listed.{Listed}
+use Rattle.packet.specs.Datagram.{cellsIn, cellsWritten, parsesInto, indexes, Listed}
+use Rattle.packet.proofs.Index.{lists-into}
+use Rattle.receive.specs.Datagram.{Progress, Reception, progress, takesListed, takesDatagram}
 
 module _ (s index : List ℕ) {after : List ℕ} {said : Said ℕ} {n : ℕ} (e : _≡_ {A = Said ℕ × List ℕ × ℕ} (said, after, n) (indexes s index)) where
   left-index : after ≡ parsesInto s index .1
@@ -22,22 +21,18 @@ module _ (s index : List ℕ) {after : List ℕ} {said : Said ℕ} {n : ℕ} (e 
   many = ap (λ (x : Said ℕ × List ℕ × ℕ). x .2) e
 
   pub lists : Listed s after n
-  lists = record {
-    cells = rw (left-index, many) (written-there s index);
-    within = λ i h. rw left-index (written-within s index i (omega (arith, many)));
-  }
+  lists = rw (left-index, many) (lists-into s index)
 
   pub few : n ≤ cellsIn index
   few = omega (arith, many)
 
   module _ {S : Type 0} (type : ℕ) (call : S → Packet → Said Unit × S) (state : S) (answers : List ℕ) where
     pub whole-taken : {well : Bool} {x : S} {given : List ℕ} → well ≡ true → cellsIn index ≤ length answers
-        → record { state = x; answers = given } ≡ takesAll type call 0 (listed s after n) (record { state = state; answers = answers })
+        → progress x given ≡ takesListed type call s after n (progress state answers)
         → record { said = said; cells = n; index = after; answers = given; state = x } ≡ takesDatagram well type call state s index answers
     whole-taken {x = x} {given = given} fits room q =
         let told : said ≡ parsesInto s index .0 = ap (λ (y : Said ℕ × List ℕ × ℕ). y .0) e in
-        let all : record { state = x; answers = given } ≡ takesAll type call 0 (listed s (parsesInto s index .1) (cellsWritten s index)) (record { state = state; answers = answers }) =
-        q ∙ rw (left-index, many) in
+        let all : progress x given ≡ takesListed type call s (parsesInto s index .1) (cellsWritten s index) (progress state answers) = q ∙ rw (left-index, many) in
         let to : Progress S → Reception S = λ d. record { said = parsesInto s index .0; cells = cellsWritten s index; index = parsesInto s index .1; answers = d .answers; state = d .state } in
         rw (fits, le-ltb (length answers) (cellsIn index) room, told, many, left-index) (ap to all)
 

@@ -1,7 +1,8 @@
 -- One call for a whole datagram: `from_bytes_into`, and then one call for each packet of a type that it listed, in order.
 -- The steps are the definitions that those calls' own contracts cite: `parsesInto`, `accepting`, `insertRange`.
 use Prim.Native.Nat.{ℕ, suc}
-use mathlib.Core.Bool.{Bool, not, cond}
+use mathlib.Core.Path.{_≡_}
+use mathlib.Core.Bool.{Bool, true, not, cond}
 use mathlib.Core.List.{List, [], _∷_}
 use lib.ListN.{length, set}
 use lib.Dec.{ltb, eqb}
@@ -27,11 +28,14 @@ pub record Acks : Type 0 where
   pub window : SlidingWindow
   pub cells : List ℕ
 
+abbrev pub acksOf : SlidingWindow → List ℕ → Acks
+acksOf w cells = record { window = w; cells = cells }
+
 -- `insert_range`: base and count are the packet's number and field
 abbrev pub enters : Acks → Packet → Said Unit × Acks
 enters a p =
     let o = insertRange (a .window) (a .cells) (p .header .«packet_number») (p .header .«type_specific_payload») in
-    (o .0, record { window = o .1; cells = o .2 })
+    (o .0, acksOf (o .1) (o .2))
 
 -- ---- the call for each listed packet of a type
 
@@ -40,16 +44,23 @@ pub record Progress (S : Type 0) : Type 0 where
   pub state : S
   pub answers : List ℕ
 
+abbrev pub progress : {S : Type 0} → S → List ℕ → Progress S
+progress state answers = record { state = state; answers = answers }
+
 -- the i-th packet: where it is of the type, the call is made, and the i-th number of the answers becomes what it answered
 abbrev pub takes : {S : Type 0} → ℕ → (S → Packet → Said Unit × S) → ℕ → Packet → Progress S → Progress S
 takes type call i p d =
     let made = call (d .state) p in
-    cond (eqb (typeNumber (p .header .«type_field»)) type) (record { state = made .1; answers = set (d .answers) i (refusalIn (made .0)) }) d
+    cond (eqb (typeNumber (p .header .«type_field»)) type) (progress (made .1) (set (d .answers) i (refusalIn (made .0)))) d
 
 -- packets i, i + 1 and so on, in order
 unfoldable pub takesAll : {S : Type 0} → ℕ → (S → Packet → Said Unit × S) → ℕ → List Packet → Progress S → Progress S
 takesAll type call i [] d = d
 takesAll type call i (p ∷ ps) d = takesAll type call (suc i) ps (takes type call i p d)
+
+-- the first n packets that an index lists
+abbrev pub takesListed : {S : Type 0} → ℕ → (S → Packet → Said Unit × S) → List ℕ → List ℕ → ℕ → Progress S → Progress S
+takesListed type call s index n = takesAll type call 0 (listed s index n)
 
 -- ---- the whole
 
@@ -66,7 +77,7 @@ pub record Reception (S : Type 0) : Type 0 where
 abbrev pub takesDatagram : {S : Type 0} → Bool → ℕ → (S → Packet → Said Unit × S) → S → List ℕ → List ℕ → List ℕ → Reception S
 takesDatagram wellFormed type call state s index answers =
     let parsed = parsesInto s index in
-    let taken = takesAll type call 0 (listed s (parsed .1) (cellsWritten s index)) (record { state = state; answers = answers }) in
+    let taken = takesListed type call s (parsed .1) (cellsWritten s index) (progress state answers) in
     checks ((not wellFormed, 12) ∷ (ltb (length answers) (cellsIn index), 10) ∷ [])
     (λ n. record { said = refuses n; cells = 0; index = index; answers = answers; state = state })
     (record { said = parsed .0; cells = cellsWritten s index; index = parsed .1; answers = taken .answers; state = taken .state })
@@ -77,4 +88,18 @@ receiving b = takesDatagram (buffer.wellFormed b) 3 accepts b
 
 -- type 4: the acks
 unfoldable pub receivingAcks : SlidingWindow → List ℕ → List ℕ → List ℕ → List ℕ → Reception Acks
-receivingAcks w cells = takesDatagram (window.wellFormed w cells) 4 enters (record { window = w; cells = cells })
+receivingAcks w cells = takesDatagram (window.wellFormed w cells) 4 enters (acksOf w cells)
+
+-- ---- what the loops keep
+
+-- the state of each call is well formed
+abbrev pub WellBuffer : Buffer → Type 0
+WellBuffer b = buffer.wellFormed b ≡ true
+
+abbrev pub WellAcks : Acks → Type 0
+WellAcks a = window.wellFormed (a .window) (a .cells) ≡ true
+
+-- what is left is what the definition says, and its state is good
+pub record Leaves {S : Type 0} (Good : S → Type 0) (said left : Progress S) : Type 0 where
+  pub same : left ≡ said
+  pub good : Good (left .state)

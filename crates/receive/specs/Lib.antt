@@ -1,2 +1,1 @@
 pub mod Datagram
-pub mod Listed

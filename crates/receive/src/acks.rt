@@ -1,14 +1,12 @@
 // The acks of a datagram, entered into the window one after another. The caller has tested the window; each ack keeps it well formed.
 // Proved: window, cells and answers are those of the entries of specs/Datagram.antt in order.
 ghost use mathlib.Core.Path.{_≡_};
-ghost use mathlib.Core.Bool.{true};
 ghost use Prim.Native.Nat.{_+_, _<_, _≤_};
 ghost use lib.ListN.{length};
 ghost use Rattle.refusal.specs.Said.{refusalIn};
-ghost use Rattle.packet.specs.Datagram.{packetAt, listed};
-ghost use Rattle.window.specs.Window.{wellFormed, rangeInsertedSays, windowAfterRange};
-ghost use Rattle.receive.specs.Datagram.{enters, takes, takesAll};
-ghost use Rattle.receive.specs.Listed.{Listed};
+ghost use Rattle.packet.specs.Datagram.{packetAt, Listed};
+ghost use Rattle.window.specs.Window.{rangeInsertedSays, windowAfterRange};
+ghost use Rattle.receive.specs.Datagram.{acksOf, enters, progress, takes, takesListed, WellAcks, Leaves};
 use refusal::Refusal;
 use window::RangeInserted;
 use window::SlidingWindow;
@@ -31,8 +29,10 @@ pub fn enter_all(
     n: usize,
     answers: &mut [u8],
 ) -> SlidingWindow
-    requires { ⌜ (wellFormed w (now cells) ≡ true) × Listed (now datagram) (now index) n × (n ≤ length (now answers)) ⌝ }
-    ensures { λ r. ⌜ record { state = record { window = r; cells = now (cells .exit) }; answers = now (answers .exit) } ≡ takesAll 4 enters 0 (listed (now (datagram .entry)) (now (index .entry)) n) (record { state = record { window = w; cells = now (cells .entry) }; answers = now (answers .entry) }) ⌝ }
+    requires { ⌜ WellAcks (acksOf w (now cells)) × Listed (now datagram) (now index) n × (n ≤ length (now answers)) ⌝ }
+    ensures { λ r. ⌜
+        progress (acksOf r (now (cells .exit))) (now (answers .exit))
+        ≡ takesListed 4 enters (now (datagram .entry)) (now (index .entry)) n (progress (acksOf w (now (cells .entry))) (now (answers .entry))) ⌝ }
 {
     let mut i = 0;
     let mut entered = w;
@@ -54,26 +54,20 @@ fn enter_listed(
     i: usize,
     answers: &mut [u8],
 ) -> SlidingWindow
-    requires { ⌜ (wellFormed w (now cells) ≡ true) × (at + 20 ≤ length (now datagram)) × (i < length (now answers)) ⌝ }
-    ensures { λ r. ⌜ (record { state = record { window = r; cells = now (cells .exit) }; answers = now (answers .exit) } ≡ takes 4 enters i (packetAt (now (datagram .entry)) (at, 0)) (record { state = record { window = w; cells = now (cells .entry) }; answers = now (answers .entry) })) × (wellFormed r (now (cells .exit)) ≡ true) ⌝ }
+    requires { ⌜ WellAcks (acksOf w (now cells)) × (at + 20 ≤ length (now datagram)) × (i < length (now answers)) ⌝ }
+    ensures { λ r. ⌜ Leaves WellAcks
+        (takes 4 enters i (packetAt (now (datagram .entry)) (at, 0)) (progress (acksOf w (now (cells .entry))) (now (answers .entry))))
+        (progress (acksOf r (now (cells .exit))) (now (answers .exit))) ⌝ }
 {
-    if datagram[at] % 16 != ACK {
+    if header::type_at_unchecked(datagram, at) != ACK {
         return w;
     }
-    let entered = enter(w, cells, datagram, at);
+    let base = header::number_at_unchecked(datagram, at);
+    let count = header::field_at_unchecked(datagram, at);
+    let inserted = window::insert_range_unchecked(w, cells, base, count);
+    let entered = entered_by(w, inserted);
     answers[i] = entered.refusal;
     entered.window
-}
-
-// The ack at a cursor.
-fn enter(w: SlidingWindow, cells: &mut [u64], datagram: &[u8], at: usize) -> Entered
-    requires { ⌜ (wellFormed w (now cells) ≡ true) × (at + 20 ≤ length (now datagram)) ⌝ }
-    ensures { λ r. ⌜ (r .refusal ≡ refusalIn (enters (record { window = w; cells = now (cells .entry) }) (packetAt (now (datagram .entry)) (at, 0)) .0)) × (record { window = r .window; cells = now (cells .exit) } ≡ enters (record { window = w; cells = now (cells .entry) }) (packetAt (now (datagram .entry)) (at, 0)) .1) × (wellFormed (r .window) (now (cells .exit)) ≡ true) ⌝ }
-{
-    let base = parts::get8(datagram, at + 12);
-    let count = parts::get2(datagram, at + 1);
-    let inserted = window::insert_range_unchecked(w, cells, base, count);
-    entered_by(w, inserted)
 }
 
 fn entered_by(w: SlidingWindow, inserted: RangeInserted) -> Entered

@@ -1,15 +1,13 @@
 // The data packets of a datagram, accepted one after another. The caller has tested the buffer; each accept keeps it well formed.
 // Proved: buffer and answers are those of the accepts of specs/Datagram.antt in order.
 ghost use mathlib.Core.Path.{_≡_};
-ghost use mathlib.Core.Bool.{true};
 ghost use Prim.Native.Nat.{_+_, _<_, _≤_};
 ghost use lib.ListN.{length};
 ghost use Rattle.refusal.specs.Said.{refusalIn};
-ghost use Rattle.packet.specs.Datagram.{packetAt, listed};
-ghost use Rattle.ordered_bytes.specs.Buffer.{bufferOf, wellFormed};
+ghost use Rattle.packet.specs.Datagram.{packetAt, Listed};
+ghost use Rattle.ordered_bytes.specs.Buffer.{bufferOf};
 ghost use Rattle.ordered_bytes.specs.Calls.{acceptedSays};
-ghost use Rattle.receive.specs.Datagram.{accepts, takes, takesAll};
-ghost use Rattle.receive.specs.Listed.{Listed};
+ghost use Rattle.receive.specs.Datagram.{accepts, progress, takes, takesListed, WellBuffer, Leaves};
 use ordered_bytes::Accepted;
 use ordered_bytes::OrderedBytes;
 
@@ -27,8 +25,11 @@ pub fn accept_all(
     lengths: &mut [u32],
     store: &mut [u8],
 )
-    requires { ⌜ (wellFormed (bufferOf o (now marks) (now lengths) (now store)) ≡ true) × Listed (now datagram) (now index) n × (n ≤ length (now answers)) ⌝ }
-    ensures { λ _. ⌜ record { state = bufferOf o (now (marks .exit)) (now (lengths .exit)) (now (store .exit)); answers = now (answers .exit) } ≡ takesAll 3 accepts 0 (listed (now (datagram .entry)) (now (index .entry)) n) (record { state = bufferOf o (now (marks .entry)) (now (lengths .entry)) (now (store .entry)); answers = now (answers .entry) }) ⌝ }
+    requires { ⌜ WellBuffer (bufferOf o (now marks) (now lengths) (now store)) × Listed (now datagram) (now index) n × (n ≤ length (now answers)) ⌝ }
+    ensures { λ _. ⌜
+        progress (bufferOf o (now (marks .exit)) (now (lengths .exit)) (now (store .exit))) (now (answers .exit))
+        ≡ takesListed 3 accepts (now (datagram .entry)) (now (index .entry)) n
+        (progress (bufferOf o (now (marks .entry)) (now (lengths .entry)) (now (store .entry))) (now (answers .entry))) ⌝ }
 {
     let mut i = 0;
     while i < n {
@@ -52,29 +53,16 @@ fn accept_listed(
     lengths: &mut [u32],
     store: &mut [u8],
 )
-    requires { ⌜ (wellFormed (bufferOf o (now marks) (now lengths) (now store)) ≡ true) × (at + 20 + len ≤ length (now datagram)) × (i < length (now answers)) ⌝ }
-    ensures { λ _. ⌜ (record { state = bufferOf o (now (marks .exit)) (now (lengths .exit)) (now (store .exit)); answers = now (answers .exit) } ≡ takes 3 accepts i (packetAt (now (datagram .entry)) (at, len)) (record { state = bufferOf o (now (marks .entry)) (now (lengths .entry)) (now (store .entry)); answers = now (answers .entry) })) × (wellFormed (bufferOf o (now (marks .exit)) (now (lengths .exit)) (now (store .exit))) ≡ true) ⌝ }
+    requires { ⌜ WellBuffer (bufferOf o (now marks) (now lengths) (now store)) × (at + 20 + len ≤ length (now datagram)) × (i < length (now answers)) ⌝ }
+    ensures { λ _. ⌜ Leaves WellBuffer
+        (takes 3 accepts i (packetAt (now (datagram .entry)) (at, len))
+        (progress (bufferOf o (now (marks .entry)) (now (lengths .entry)) (now (store .entry))) (now (answers .entry))))
+        (progress (bufferOf o (now (marks .exit)) (now (lengths .exit)) (now (store .exit))) (now (answers .exit))) ⌝ }
 {
-    if datagram[at] % 16 != DATA {
+    if header::type_at_unchecked(datagram, at) != DATA {
         return;
     }
-    answers[i] = accept(o, datagram, at, len, marks, lengths, store);
-}
-
-// The data packet at a cursor.
-fn accept(
-    o: OrderedBytes,
-    datagram: &[u8],
-    at: usize,
-    len: usize,
-    marks: &mut [bool],
-    lengths: &mut [u32],
-    store: &mut [u8],
-) -> u8
-    requires { ⌜ (wellFormed (bufferOf o (now marks) (now lengths) (now store)) ≡ true) × (at + 20 + len ≤ length (now datagram)) ⌝ }
-    ensures { λ r. ⌜ (r ≡ refusalIn (accepts (bufferOf o (now (marks .entry)) (now (lengths .entry)) (now (store .entry))) (packetAt (now (datagram .entry)) (at, len)) .0)) × (bufferOf o (now (marks .exit)) (now (lengths .exit)) (now (store .exit)) ≡ accepts (bufferOf o (now (marks .entry)) (now (lengths .entry)) (now (store .entry))) (packetAt (now (datagram .entry)) (at, len)) .1) × (wellFormed (bufferOf o (now (marks .exit)) (now (lengths .exit)) (now (store .exit))) ≡ true) ⌝ }
-{
-    let number = parts::get8(datagram, at + 12);
+    let number = header::number_at_unchecked(datagram, at);
     let begin = at + 20;
     let end = begin + len;
     let accepted = ordered_bytes::buffer_in_packet_unchecked(
@@ -85,7 +73,7 @@ fn accept(
         lengths,
         store,
     );
-    refusal_in(accepted)
+    answers[i] = refusal_in(accepted);
 }
 
 fn refusal_in(accepted: Accepted) -> u8

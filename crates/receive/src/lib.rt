@@ -4,7 +4,7 @@
 ghost use mathlib.Core.Path.{_≡_};
 ghost use Rattle.packet.specs.Datagram.{parsedSays};
 ghost use Rattle.ordered_bytes.specs.Buffer.{bufferOf};
-ghost use Rattle.receive.specs.Datagram.{receiving, receivingAcks};
+ghost use Rattle.receive.specs.Datagram.{acksOf, receiving, receivingAcks};
 use ordered_bytes::OrderedBytes;
 use packet::Indexed;
 use packet::Parsed;
@@ -31,7 +31,16 @@ pub fn receive(
     lengths: &mut [u32],
     store: &mut [u8],
 ) -> Indexed
-    ensures { λ r. ⌜ record { said = parsedSays (r .answer); cells = r .cells; index = now (index .exit); answers = now (answers .exit); state = bufferOf o (now (marks .exit)) (now (lengths .exit)) (now (store .exit)) } ≡ receiving (bufferOf o (now (marks .entry)) (now (lengths .entry)) (now (store .entry))) (now (datagram .entry)) (now (index .entry)) (now (answers .entry)) ⌝ }
+    ensures { λ r. ⌜
+        record {
+          said = parsedSays (r .answer);
+          cells = r .cells;
+          index = now (index .exit);
+          answers = now (answers .exit);
+          state = bufferOf o (now (marks .exit)) (now (lengths .exit)) (now (store .exit));
+        }
+        ≡ receiving (bufferOf o (now (marks .entry)) (now (lengths .entry)) (now (store .entry)))
+        (now (datagram .entry)) (now (index .entry)) (now (answers .entry)) ⌝ }
 {
     if !ordered_bytes::well_formed(o, marks, lengths, store) {
         return Indexed {
@@ -67,7 +76,15 @@ pub fn receive_acks(
     index: &mut [u32],
     answers: &mut [u8],
 ) -> AcksReceived
-    ensures { λ r. ⌜ record { said = parsedSays (r .answer); cells = r .cells; index = now (index .exit); answers = now (answers .exit); state = record { window = r .window; cells = now (cells .exit) } } ≡ receivingAcks w (now (cells .entry)) (now (datagram .entry)) (now (index .entry)) (now (answers .entry)) ⌝ }
+    ensures { λ r. ⌜
+        record {
+          said = parsedSays (r .answer);
+          cells = r .cells;
+          index = now (index .exit);
+          answers = now (answers .exit);
+          state = acksOf (r .window) (now (cells .exit));
+        }
+        ≡ receivingAcks w (now (cells .entry)) (now (datagram .entry)) (now (index .entry)) (now (answers .entry)) ⌝ }
 {
     if !window::well_formed(w, cells) {
         return AcksReceived {

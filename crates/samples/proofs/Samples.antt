@@ -9,7 +9,7 @@ use lib.ListN.{replicate}
 use Rattle.refusal.specs.Said.{answers, refuses, checks}
 use Rattle.header.specs.Header.{headerBytes}
 use Rattle.packet.specs.Packet.{joined}
-use Rattle.packet.specs.Datagram.{readingLimit, payloadMissing, walkBy, packetsOf, flat, parsed, listed}
+use Rattle.packet.specs.Datagram.{readingLimit, payloadMissing, walkBy, packetsOf, flat, parsed, packetAt, listed}
 use Rattle.writer.specs.Packing.{payloadSize, byteLimit, cut, numbered, removal, shortened, sum, packing}
 use Rattle.writer.specs.Acks.{datagramLimit, anyTooLarge, consumesAcks}
 use Rattle.window.specs.Window.{member, rising, allHoldable, wellFormed, place, numbers, insertPacketNumber, beforeHeld, insertRange}
@@ -39,7 +39,7 @@ empty-means : buffer.view (emptyBuffer 2000 1) ≡ empty
 empty-means = view-fresh 1 100 (replicate 2000 false) (replicate 2000 0) (replicate 2001 0)
 
 pub samples : Samples
-unfolding headerBytes joined readingLimit payloadMissing walkBy packetsOf flat parsed listed payloadSize byteLimit cut numbered removal shortened sum
+unfolding headerBytes joined readingLimit payloadMissing walkBy packetsOf flat parsed packetAt listed payloadSize byteLimit cut numbered removal shortened sum
     packing datagramLimit anyTooLarge consumesAcks member rising allHoldable wellFormed place numbers insertPacketNumber beforeHeld insertRange
     walk consumed numbersFit buffer.view buffer.allWithin buffer.wellFormed accepting consuming
 samples = record {

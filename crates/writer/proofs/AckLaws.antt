@@ -14,12 +14,12 @@ use Rattle.refusal.specs.Said.{answers, refuses, checks}
 use Rattle.refusal.proofs.Checks.{Passed, Checked, passes, fails, checked}
 use Rattle.header.specs.Types.{rowOf}
 use Rattle.header.specs.Header.{headerBytes, typeAt}
-use Rattle.header.specs.declared.BluefinHeader.{BluefinHeader}
 use Rattle.header.proofs.Trip.{Sized, length-header, read-at, type-read}
 use Rattle.packet.specs.Packet.{Packet}
 use Rattle.packet.specs.Datagram.{Walk, onto, walkAt, packetAt}
 use Rattle.packet.proofs.Step.{at-end, at-bare}
 use Rattle.packet.proofs.Walk.{walk-end, walk-packet}
+use Rattle.packet.proofs.Index.{packet-is}
 use Rattle.ring_buffer.specs.Ring.{blank, wellFormed, contents, popped, blanked}
 use Rattle.ring_buffer.specs.declared.AckData.{AckData}
 use Rattle.ring_buffer.specs.declared.RingBuffer.{RingBuffer}
@@ -68,7 +68,7 @@ module _ (src dst : ℕ) (src-fits : src < 2 ^ 32) (dst-fits : dst < 2 ^ 32) (s 
       let bare : rowOf (typeAt s at) .«has_payload» ≡ false = rw type refl in
       let on = reads l (at + 20) rest (fits .1) (λ i h. base (suc i) (omega arith)) in (
         walk-packet s at (at-bare s at (omega (arith, long)) known bare) ∙ ap (λ (c : ℕ). onto (at, 0) (walkAt s c)) (add-zero (at + 20)) ∙ ap (onto (at, 0)) (on .0),
-        ap₂ _∷_ (ap (λ (x : BluefinHeader). record { header = x; payload = [] }) (read-at h z s (ackBytes src dst l) at q)) (on .1),
+        ap₂ _∷_ (packet-is s at 0 (read-at h z s (ackBytes src dst l) at q) refl) (on .1),
       )
 
 -- ---- the call

@@ -8,7 +8,7 @@ use native.Mathlib.Omega.{arith}
 use lib.ListN.{length}
 use lib.Dec.{ltb}
 use borrow.Author.Tests.{lt-ltb, le-ltb, ltb-false}
-use Rattle.packet.specs.Datagram.{fieldAt}
+use Rattle.header.specs.Header.{fieldAt}
 use Rattle.writer.specs.PayloadBytes.{payloadBytesBy}
 
 -- more steps than there are bytes left change nothing

@@ -4,7 +4,7 @@ use mathlib.Core.Bool.{cond, _||_}
 use mathlib.Core.List.{List}
 use lib.ListN.{length}
 use lib.Dec.{ltb}
-use Rattle.packet.specs.Datagram.{fieldAt}
+use Rattle.header.specs.Header.{fieldAt}
 
 -- "adds the fields of all packets of any type, stopping where header or payload would run past the end".
 -- Every packet has 20 bytes or more, so that as many steps as there are bytes left, and one, are enough.

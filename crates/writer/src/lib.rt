@@ -251,7 +251,7 @@ pub fn payload_bytes_in_datagram(datagram: &[u8]) -> usize
     let mut total = 0;
     let mut at = 0;
     while datagram.len() - at >= 20 {
-        let field = parts::get2(datagram, at + 1) as usize;
+        let field = header::field_at_unchecked(datagram, at) as usize;
         if datagram.len() - at - 20 < field {
             return total;
         }

@@ -2,6 +2,7 @@
 use Prim.Native.Nat.{_-_, _*_, _≤_}
 use native.Mathlib.Omega.{arith}
 use borrow.Author.Needs.{needs}
+use Rattle.packet.proofs.Index.{header-within}
 use Rattle.listing.proofs.print_packets.Statement.{statement}
 use Rattle.listing.proofs.print_packets.Tie as tie
 
@@ -16,8 +17,9 @@ cast-print-packet c = omega (arith, c .shared-slice-known3 .given (2 * c .before
 
 print-packet-requires : tie.Need-print-packet-requires Inv-loop μ-loop
 print-packet-requires c κs =
-    let turn = c .before .before .before in
-    turn .before .before .before .pre .within (turn .loop .i) (omega arith)
+    let turn = c .before .before in
+    let start = turn .before .before .before .before in
+    header-within (start .pre) (turn .before .loop .i) (omega arith)
 
 pub print-packets-spec : {M : Type 1} → statement M
 print-packets-spec =

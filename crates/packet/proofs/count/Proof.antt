@@ -1,99 +1,83 @@
 -- `packet::count` meets its contract. The invariant: what is still to be said, n packets having been met before the cursor, is the whole answer.
 -- Assumes nothing.
-use Prim.Native.Nat.{_+_, _-_, _≤_}
-use mathlib.Core.Path.{_≡_, refl, sym, _∙_}
+use Prim.Native.Nat.{ℕ, _-_, _≤_, zero-le}
+use mathlib.Core.Path.{_≡_, sym, ap, subst, _∙_}
+use mathlib.Core.List.{List, []}
 use native.Mathlib.Omega.{arith}
 use lib.ListN.{length}
 use denote.Ref.{now}
 use borrow.Author.Needs.{needs}
-use Rattle.packet.specs.declared.Look.{Look}
-use Rattle.packet.specs.Datagram.{walkAt, readingLimit, parsed}
-use Rattle.packet.specs.Step.{Looked}
-use Rattle.packet.proofs.Walk.{saidBy, walk-end, walk-fault, walk-packet, said-ending, said-full, said-onward, begin-long, begin-short, begin-walk, said-begin, said-at-once}
+use Rattle.refusal.specs.Said.{Said}
+use Rattle.packet.specs.declared.Advance.{Advance}
+use Rattle.packet.specs.Datagram.{Walk, walkAt, readingLimit, parsed}
+use Rattle.packet.specs.Step.{outcome, Stepped}
+use Rattle.packet.proofs.Walk.{out-ending, begin-long, begin-short, begin-walk, said-all}
 use Rattle.packet.proofs.count.Statement.{statement}
 use Rattle.packet.proofs.count.Tie as tie
 
+-- the answer of an outcome
+abbrev said : Said ℕ × List ℕ × ℕ → Said ℕ
+said x = x .0
+
 abbrev Inv-loop : tie.InvT-loop
-Inv-loop datagram room types at₀ n₀ at n =
-    (at ≤ length datagram) × (n ≤ at) × (n ≤ room) × (saidBy room n (walkAt datagram at) ≡ parsed datagram room)
+Inv-loop datagram room types at₀ n₀ at n = (at ≤ length datagram) × (n ≤ room) × (said (outcome room n [] (walkAt datagram at)) ≡ parsed datagram room)
 
 abbrev μ-loop : tie.MeasureT-loop
 μ-loop datagram room types at₀ n₀ at n = length datagram - at
 
--- what `look_at` found
-looked : (c : tie.After-look-at Inv-loop μ-loop) {r : Look} → c .look-at .result ≡ r
-    → Looked (now (c .before .before .before .before .before .before .before .args .datagram)) (c .before .before .loop .at) r
-looked c q = rw (sym q) (c .look-at .ensures)
+abbrev start : tie.At-loop Inv-loop μ-loop → tie.Start Inv-loop μ-loop
+start k = let tested = k .before .before in tested .before .before .before
 
--- a packet found lies within the datagram
-within : (c : tie.After-found2 Inv-loop μ-loop)
-    → c .before .before .before .before .loop .at + 20 + c .found2 .given .0 .0 ≤ length (now (c .before .before .before .before .before .before .before .before .before .args .datagram))
-within c = looked (c .before .before) (c .found2 .given .1) .within (c .found2 .given .0 .0) refl
+-- what the step found
+stepped : (c : tie.After-step-at Inv-loop μ-loop) {r : Advance} → c .step-at .result ≡ r →
+    let k = c .before .before in
+    Stepped (now (start k .args .datagram)) (start k .args .room) (k .loop .at) (k .loop .n) r
+stepped c q = let k = c .before .before in subst (Stepped (now (start k .args .datagram)) (start k .args .room) (k .loop .at) (k .loop .n)) q (c .step-at .ensures)
 
 returns : tie.Need-returns Inv-loop μ-loop
 unfolding readingLimit
-returns c = said-at-once _ _ (begin-long _ (c .if1 .taken))
+returns c = ap said (sym (out-ending _ 0 [] zero-le (begin-long _ (c .if1 .taken)))) ∙ said-all _ _
 
 returns-2 : tie.Need-returns-2 Inv-loop μ-loop
 unfolding readingLimit
-returns-2 c = said-at-once _ _ (begin-short _ (c .before .if1 .left) (c .if2 .taken))
+returns-2 c = ap said (sym (out-ending _ 0 [] zero-le (begin-short _ (c .before .if1 .left) (c .if2 .taken)))) ∙ said-all _ _
 
 type-table-requires : tie.Need-type-table-requires Inv-loop μ-loop
 type-table-requires c κs = search needs
 
 loop-holds : tie.Need-loop-holds Inv-loop μ-loop
 unfolding readingLimit
-loop-holds c = (omega arith, omega arith, omega arith, said-begin _ _ (begin-walk _ (c .before .before .if1 .left) (c .before .if2 .left)))
+loop-holds c =
+    let long = c .before .before in
+    let room = long .before .before .args .room in
+    let walk = begin-walk _ (long .if1 .left) (c .before .if2 .left) in
+    (zero-le, zero-le, ap (λ (w : Walk). said (outcome room 0 [] w)) (sym walk) ∙ said-all _ room)
 
-look-at-requires : tie.Need-look-at-requires Inv-loop μ-loop
-look-at-requires c κs = (c .before .loop .inv .0, c .before .before .type-table .ensures)
-
-enum-told : tie.Need-enum-told Inv-loop μ-loop
-enum-told c = search needs
-
-returns-3 : tie.Need-returns-3 Inv-loop μ-loop
-returns-3 c =
-    let loop = c .before .before .before .before .loop in
-    sym (said-ending _ _ (loop .inv .2) (walk-end _ _ (looked (c .before .before) (c .enum-told .given .1)))) ∙ loop .inv .3
+step-at-requires : tie.Need-step-at-requires Inv-loop μ-loop
+step-at-requires c κs = (c .before .loop .inv .0, c .before .loop .inv .1, c .before .before .type-table .ensures)
 
 enum-known-found : tie.Need-enum-known-found Inv-loop μ-loop
 enum-known-found c = search needs
 
-returns-4 : tie.Need-returns-4 Inv-loop μ-loop
-returns-4 c =
-    let loop = c .before .before .before .before .before .loop in
-    sym (said-ending _ _ (loop .inv .2) (walk-fault _ _ (looked (c .before .before .before) (c .before .found .given .1)))) ∙ loop .inv .3
+returns-3 : tie.Need-returns-3 Inv-loop μ-loop
+returns-3 c =
+    let made = c .before .before .before in
+    ap said (sym (stepped made (c .before .found .given .1) [])) ∙ made .before .before .loop .inv .2
 
 enum-known-found-2 : tie.Need-enum-known-found-2 Inv-loop μ-loop
 enum-known-found-2 c = search needs
 
-returns-5 : tie.Need-returns-5 Inv-loop μ-loop
-returns-5 c =
-    let found = c .before .before in
-    let loop = found .before .before .before .before .loop in
-    sym (said-full _ _ (c .if3 .taken) (walk-packet _ _ (looked (found .before .before) (found .found2 .given .1)))) ∙ loop .inv .3
-
 add-n : tie.Need-add-n Inv-loop μ-loop
-add-n c = omega (arith, within (c .before .before))
-
-add-at : tie.Need-add-at Inv-loop μ-loop
-add-at c = omega (arith, within (c .before .before))
-
-add-at-2 : tie.Need-add-at-2 Inv-loop μ-loop
-add-at-2 c = omega (arith, within (c .before .before))
+add-n c = let on = stepped (c .before .before .before) (c .before .found2 .given .1) in omega (arith, on .free)
 
 loop-less : tie.Need-loop-less Inv-loop μ-loop
-loop-less c = omega (arith, within (c .before .before))
+loop-less c = let on = stepped (c .before .before .before) (c .before .found2 .given .1) in omega (arith, on .behind, on .within)
 
 loop-again : tie.Need-loop-again Inv-loop μ-loop
 loop-again c =
-    let found = c .before .before in
-    let loop = found .before .before .before .before .loop in (
-      within found,
-      omega (arith, within found),
-      omega arith,
-      sym (said-onward _ _ (walk-packet _ _ (looked (found .before .before) (found .found2 .given .1)))) ∙ loop .inv .3,
-    )
+    let made = c .before .before .before in
+    let on = stepped made (c .before .found2 .given .1) in
+    (on .within, omega (arith, on .free), ap said (sym (on .rest [])) ∙ made .before .before .loop .inv .2)
 
 pub count-spec : {M : Type 1} → statement M
 count-spec =
@@ -105,15 +89,10 @@ count-spec =
     returns-2
     type-table-requires
     loop-holds
-    look-at-requires
-    enum-told
-    returns-3
+    step-at-requires
     enum-known-found
-    returns-4
+    returns-3
     enum-known-found-2
-    returns-5
     add-n
-    add-at
-    add-at-2
     loop-less
     loop-again)

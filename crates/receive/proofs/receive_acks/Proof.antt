@@ -5,7 +5,7 @@ use native.Mathlib.Omega.{arith}
 use denote.Ref.{now}
 use borrow.Author.Tests.{not-true, not-false}
 use Rattle.window.specs.Window.{wellFormed}
-use Rattle.receive.specs.Datagram.{Acks, enters, receivingAcks}
+use Rattle.receive.specs.Datagram.{Acks, acksOf, enters, receivingAcks}
 use Rattle.receive.proofs.Whole.{lists, few, whole-taken, whole-malformed, whole-short}
 use borrow.Author.Needs.{needs}
 use Rattle.receive.proofs.receive_acks.Statement.{statement}
@@ -13,7 +13,7 @@ use Rattle.receive.proofs.receive_acks.Tie as tie
 
 -- the window as it came, and that it is well formed where the test passed
 abbrev entry : tie.After-well-formed → Acks
-entry c = let k = c .before .before .before .before .before .before .args in record { window = k .w; cells = now (k .cells) }
+entry c = let k = c .before .before .before .before .before .before .args in acksOf (k .w) (now (k .cells))
 
 fits : (c : tie.Else1) → wellFormed (entry (c .before) .window) (entry (c .before) .cells) ≡ true
 fits c = sym (c .before .well-formed .ensures) ∙ not-false _ (c .if1 .left)

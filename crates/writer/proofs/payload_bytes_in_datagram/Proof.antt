@@ -23,11 +23,8 @@ loop-holds c = omega (arith, announced-first (now (c .before .args .datagram)))
 sub-loop : tie.Need-sub-loop Inv-loop μ-loop
 sub-loop c = search needs
 
-add-get2 : tie.Need-add-get2 Inv-loop μ-loop
-add-get2 c = search needs
-
-get2-requires : tie.Need-get2-requires Inv-loop μ-loop
-get2-requires c κs = search needs
+field-at-unchecked-requires : tie.Need-field-at-unchecked-requires Inv-loop μ-loop
+field-at-unchecked-requires c κs = search needs
 
 cast-field : tie.Need-cast-field Inv-loop μ-loop
 cast-field c = search needs
@@ -41,7 +38,7 @@ sub-if1-2 c = search needs
 returns : tie.Need-returns Inv-loop μ-loop
 returns c =
     let at = c .before .before .before in
-    let none = announced-short (now (at .before .before .args .datagram)) (at .loop .at) (c .before .before .loop-test .taken) (c .before .get2 .ensures) (c .if1 .taken) in
+    let none = announced-short (now (at .before .before .args .datagram)) (at .loop .at) (c .before .before .loop-test .taken) (c .before .field-at-unchecked .ensures) (c .if1 .taken) in
     omega arith
 
 add-total : tie.Need-add-total Inv-loop μ-loop
@@ -59,7 +56,7 @@ loop-less c = omega arith
 loop-again : tie.Need-loop-again Inv-loop μ-loop
 loop-again c =
     let at = c .before .before .before in
-    let next = announced-next (now (at .before .before .args .datagram)) (at .loop .at) (c .before .before .loop-test .taken) (c .before .get2 .ensures) (c .if1 .left) in
+    let next = announced-next (now (at .before .before .args .datagram)) (at .loop .at) (c .before .before .loop-test .taken) (c .before .field-at-unchecked .ensures) (c .if1 .left) in
     omega arith
 
 returns-2 : tie.Need-returns-2 Inv-loop μ-loop
@@ -73,8 +70,7 @@ payload-bytes-in-datagram-spec =
     μ-loop
     loop-holds
     sub-loop
-    add-get2
-    get2-requires
+    field-at-unchecked-requires
     cast-field
     sub-if1
     sub-if1-2

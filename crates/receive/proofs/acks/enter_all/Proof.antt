@@ -2,26 +2,24 @@
 -- Assumes nothing.
 use Prim.Native.Nat.{_+_, _-_, _*_, _≤_, zero-le}
 use mathlib.Core.Path.{_≡_, refl, sym, ap, _∙_}
-use mathlib.Core.Bool.{true}
 use native.Mathlib.Omega.{arith}
 use lib.ListN.{length}
 use denote.Ref.{now}
 use borrow.Author.Needs.{needs}
-use Rattle.packet.specs.Datagram.{listed}
-use Rattle.window.specs.Window.{wellFormed}
-use Rattle.receive.specs.Datagram.{enters, takesAll}
-use Rattle.receive.proofs.Takes.{rest, rest-begin, rest-on, rest-end}
+use Rattle.packet.proofs.Index.{header-within}
+use Rattle.receive.specs.Datagram.{acksOf, enters, progress, takesListed, WellAcks}
+use Rattle.receive.proofs.Takes.{rest, rest-begin, rest-end}
+use Rattle.receive.proofs.Steps.{acks-on}
 use Rattle.receive.proofs.acks.enter_all.Statement.{statement}
 use Rattle.receive.proofs.acks.enter_all.Tie as tie
 
 abbrev Inv-loop : tie.InvT-loop
 Inv-loop cells₀ datagram index n answers₀ i₀ entered₀ cells answers i entered =
     (i ≤ n)
-    × (wellFormed entered cells ≡ true)
+    × WellAcks (acksOf entered cells)
     × (length answers ≡ length answers₀)
     × (length cells ≡ length cells₀)
-    × (rest 4 enters datagram index n i (record { state = record { window = entered; cells = cells }; answers = answers })
-    ≡ takesAll 4 enters 0 (listed datagram index n) (record { state = record { window = entered₀; cells = cells₀ }; answers = answers₀ }))
+    × (rest 4 enters datagram index n i (progress (acksOf entered cells) answers) ≡ takesListed 4 enters datagram index n (progress (acksOf entered₀ cells₀) answers₀))
 
 abbrev μ-loop : tie.MeasureT-loop
 μ-loop cells₀ datagram index n answers₀ i₀ entered₀ cells answers i entered = n - i
@@ -47,8 +45,7 @@ enter-listed-requires : tie.Need-enter-listed-requires Inv-loop μ-loop
 enter-listed-requires c κs =
     let turn = c .before .before .before in
     let start = turn .before .before .before .before .before .before in
-    let within = start .pre .1 .within (turn .before .loop .i) (turn .loop-test .taken) in
-    (turn .before .loop .inv .1, omega (arith, within), omega (arith, turn .loop-test .taken, start .pre .2))
+    (turn .before .loop .inv .1, header-within (start .pre .1) (turn .before .loop .i) (turn .loop-test .taken), omega (arith, turn .loop-test .taken, start .pre .2))
 
 add-i : tie.Need-add-i Inv-loop μ-loop
 add-i c = search needs
@@ -63,11 +60,11 @@ loop-again c =
     let start = turn .before .before .before .before .before .before in
     let k = turn .before .loop in (
       omega (arith, turn .loop-test .taken),
-      made .enter-listed .ensures .1,
+      made .enter-listed .ensures .good,
       search needs,
       search needs,
-      ap (rest 4 enters (now (start .args .datagram)) (now (start .args .index)) (start .args .n) (k .i + 1)) (made .enter-listed .ensures .0)
-          ∙ sym (rest-on 4 enters (now (start .args .datagram)) (now (start .args .index)) (start .args .n) (k .i) _ (turn .loop-test .taken) (start .pre .1 .cells))
+      ap (rest 4 enters (now (start .args .datagram)) (now (start .args .index)) (start .args .n) (k .i + 1)) (made .enter-listed .ensures .same)
+          ∙ sym (acks-on (now (start .args .datagram)) (now (start .args .index)) (start .args .n) (k .i) _ (turn .loop-test .taken) (start .pre .1 .cells))
           ∙ k .inv .4,
     )
 

@@ -2,14 +2,12 @@
 -- Assumes nothing.
 use Prim.Native.Nat.{_+_, _-_, _*_, _≤_, zero-le}
 use mathlib.Core.Path.{_≡_, refl, sym, ap, _∙_}
-use mathlib.Core.Bool.{true}
 use native.Mathlib.Omega.{arith}
 use lib.ListN.{length}
 use denote.Ref.{now}
 use borrow.Author.Needs.{needs}
-use Rattle.packet.specs.Datagram.{listed}
-use Rattle.ordered_bytes.specs.Buffer.{bufferOf, wellFormed}
-use Rattle.receive.specs.Datagram.{accepts, takesAll}
+use Rattle.ordered_bytes.specs.Buffer.{bufferOf}
+use Rattle.receive.specs.Datagram.{accepts, progress, takesListed, WellBuffer}
 use Rattle.receive.proofs.Takes.{rest, rest-begin, rest-on, rest-end}
 use Rattle.receive.proofs.data.accept_all.Statement.{statement}
 use Rattle.receive.proofs.data.accept_all.Tie as tie
@@ -17,13 +15,13 @@ use Rattle.receive.proofs.data.accept_all.Tie as tie
 abbrev Inv-loop : tie.InvT-loop
 Inv-loop o datagram index n answers₀ marks₀ lengths₀ store₀ i₀ answers marks lengths store i =
     (i ≤ n)
-    × (wellFormed (bufferOf o marks lengths store) ≡ true)
+    × WellBuffer (bufferOf o marks lengths store)
     × (length answers ≡ length answers₀)
     × (length marks ≡ length marks₀)
     × (length lengths ≡ length lengths₀)
     × (length store ≡ length store₀)
-    × (rest 3 accepts datagram index n i (record { state = bufferOf o marks lengths store; answers = answers })
-    ≡ takesAll 3 accepts 0 (listed datagram index n) (record { state = bufferOf o marks₀ lengths₀ store₀; answers = answers₀ }))
+    × (rest 3 accepts datagram index n i (progress (bufferOf o marks lengths store) answers)
+    ≡ takesListed 3 accepts datagram index n (progress (bufferOf o marks₀ lengths₀ store₀) answers₀))
 
 abbrev μ-loop : tie.MeasureT-loop
 μ-loop o datagram index n answers₀ marks₀ lengths₀ store₀ i₀ answers marks lengths store i = n - i
@@ -76,12 +74,12 @@ loop-again c =
     let start = turn .before .before .before .before .before .before .before .before in
     let k = turn .before .loop in (
       omega (arith, turn .loop-test .taken),
-      made .accept-listed .ensures .1,
+      made .accept-listed .ensures .good,
       search needs,
       search needs,
       search needs,
       search needs,
-      ap (rest 3 accepts (now (start .args .datagram)) (now (start .args .index)) (start .args .n) (k .i + 1)) (made .accept-listed .ensures .0)
+      ap (rest 3 accepts (now (start .args .datagram)) (now (start .args .index)) (start .args .n) (k .i + 1)) (made .accept-listed .ensures .same)
           ∙ sym (rest-on 3 accepts (now (start .args .datagram)) (now (start .args .index)) (start .args .n) (k .i) _ (turn .loop-test .taken) (start .pre .1 .cells))
           ∙ k .inv .6,
     )
