@@ -53,5 +53,6 @@ module _ (head : ℕ) (ys : List AckData) (in-run : head < length ys) where
       let long = length-blanked head k ys in
       let r = rotated head ys in
       ap (λ (c : ℕ). getD (blanked head k ys) ((head + k) % c) blank) (sym long) ∙ sym (getD-rotated head k (blanked head k ys) blank (rw long in-run) (rw long far))
-      ∙ ap (λ (l : List AckData). getD l k blank) (rotated-blanked k (omega arith)) ∙ ap (λ (m : ℕ). getD (replicate k blank ++ drop k r) m blank) (sym (ap (λ (m : ℕ). m + 0) (length-replicate k blank) ∙ add-zero k))
+      ∙ ap (λ (l : List AckData). getD l k blank) (rotated-blanked k (omega arith))
+      ∙ ap (λ (m : ℕ). getD (replicate k blank ++ drop k r) m blank) (sym (ap (λ (m : ℕ). m + 0) (length-replicate k blank) ∙ add-zero k))
       ∙ getD-append-add (replicate k blank) (drop k r) 0 blank ∙ getD-drop k r 0 blank ∙ ap (λ (m : ℕ). getD r m blank) (add-zero k)

@@ -1,16 +1,17 @@
 -- What each call over the cells comes to once its tests are decided, for a run of c cells.
 -- Assumes nothing.
 use Prim.Native.Nat.{ℕ, _<_, _≤_}
+use native.Mathlib.Nat.{le-refl}
 use native.Mathlib.Omega.{arith}
 use mathlib.Core.Path.{_≡_, refl, sym, ap, _∙_}
-use mathlib.Core.Bool.{Bool, true, false, cond}
-use mathlib.Core.List.{List}
+use mathlib.Core.Bool.{Bool, true, false, cond, not, _&&_}
+use mathlib.Core.List.{List, [], _∷_}
 use mathlib.Core.Option.{Option, none, some}
-use lib.ListN.{length, getD, set}
+use lib.ListN.{length, getD, set, List·getD-eq-default}
 use lib.Seq.{set-out}
 use lib.Dec.{eqb}
 use borrow.Author.Tests.{eqb-true, eqb-false, eq-eqb, ne-eqb}
-use Rattle.refusal.specs.Said.{Said, answers, refuses}
+use Rattle.refusal.specs.Said.{Said, answers, refuses, checks}
 use Rattle.ring_buffer.specs.Ring.{blank, wellFormed, before, grownBack, grownFront, popped, blanked, Outcome, leaves, pushBack, pushFront, popFront, front, clear}
 use Rattle.ring_buffer.specs.Places.{backPlace, frontPlace, popPlace, clearTurns}
 use Rattle.ring_buffer.proofs.Positions.{room, head-in}
@@ -50,6 +51,12 @@ module _ (g : RingBuffer) (ys : List AckData) (c : ℕ) (e : length ys ≡ c) wh
       pub front-full : pushFront g ys a ≡ leaves (answers (some a)) g ys
       front-full = simp (e, w, eq-eqb (g .len) c full)
 
+      -- a push on a full ring has no place, and finds its own record
+      pub found-full : (i : ℕ) (b : AckData) → b ≡ getD ys (cond (wellFormed g c && not (eqb (g .len) c)) i c) a → b ≡ a
+      found-full i b q =
+          let none : cond (wellFormed g c && not (eqb (g .len) c)) i c ≡ c = simp (w, eq-eqb (g .len) c full) in
+          q ∙ ap (λ (j : ℕ). getD ys j a) none ∙ List·getD-eq-default ys a {n = c} (omega (arith, e))
+
     module _ (free : g .len ≡ c → ⊥) (a : AckData) where
       pub back-stored : pushBack g ys a ≡ leaves (answers none) (grownBack g c) (set ys (g .tail) a)
       back-stored = simp (e, w, ne-eqb (g .len) c free)
@@ -77,9 +84,6 @@ module _ (g : RingBuffer) (ys : List AckData) (c : ℕ) (e : length ys ≡ c) wh
 -- the cell that each call touches
 module _ (g : RingBuffer) (c : ℕ) where
   module _ (w : wellFormed g c ≡ true) where
-    pub back-place-is : (g .len ≡ c → ⊥) → backPlace g c ≡ g .tail
-    back-place-is free = simp (w, ne-eqb (g .len) c free)
-
     pub front-place-is : (g .len ≡ c → ⊥) → frontPlace g c ≡ before c (g .head)
     front-place-is free = simp (w, ne-eqb (g .len) c free)
 
@@ -90,22 +94,6 @@ module _ (g : RingBuffer) (c : ℕ) where
   module _ (ys : List AckData) (e : length ys ≡ c) where
     none-set : (i : ℕ) (a : AckData) → i ≡ c → set ys i a ≡ ys
     none-set i a q = set-out ys i a (omega arith)
-
-    pub back-cells : (a : AckData) → set ys (backPlace g c) a ≡ pushBack g ys a .cells
-    back-cells a = by (wellFormed g c) refl (eqb (g .len) c) refl
-      where
-        by : (b : Bool) → wellFormed g c ≡ b → (f : Bool) → eqb (g .len) c ≡ f → set ys (backPlace g c) a ≡ pushBack g ys a .cells
-        by false w f q = none-set _ a (simp w) ∙ ap (λ (r : Outcome (Option AckData)). r .cells) (sym (back-malformed g ys c e w a))
-        by true w true q = none-set _ a (simp (w, q)) ∙ ap (λ (r : Outcome (Option AckData)). r .cells) (sym (back-full g ys c e w (eqb-true (g .len) c q) a))
-        by true w false q = ap (λ (i : ℕ). set ys i a) (back-place-is w (eqb-false (g .len) c q)) ∙ ap (λ (r : Outcome (Option AckData)). r .cells) (sym (back-stored g ys c e w (eqb-false (g .len) c q) a))
-
-    pub front-cells : (a : AckData) → set ys (frontPlace g c) a ≡ pushFront g ys a .cells
-    front-cells a = by (wellFormed g c) refl (eqb (g .len) c) refl
-      where
-        by : (b : Bool) → wellFormed g c ≡ b → (f : Bool) → eqb (g .len) c ≡ f → set ys (frontPlace g c) a ≡ pushFront g ys a .cells
-        by false w f q = none-set _ a (simp w) ∙ ap (λ (r : Outcome (Option AckData)). r .cells) (sym (front-malformed g ys c e w a))
-        by true w true q = none-set _ a (simp (w, q)) ∙ ap (λ (r : Outcome (Option AckData)). r .cells) (sym (front-full g ys c e w (eqb-true (g .len) c q) a))
-        by true w false q = ap (λ (i : ℕ). set ys i a) (front-place-is w (eqb-false (g .len) c q)) ∙ ap (λ (r : Outcome (Option AckData)). r .cells) (sym (front-stored g ys c e w (eqb-false (g .len) c q) a))
 
     pub pop-cells : set ys (popPlace g c) blank ≡ popFront g ys .cells
     pop-cells = by (wellFormed g c) refl (eqb (g .len) 0) refl
@@ -122,6 +110,28 @@ module _ (g : RingBuffer) (c : ℕ) where
         by : (b : Bool) → wellFormed g c ≡ b → blanked (g .head) (cond b (g .len) 0) ys ≡ clear g ys .cells
         by true w = ap (λ (r : Outcome Unit). r .cells) (sym (clear-well g ys c e w))
         by false w = ap (λ (r : Outcome Unit). r .cells) (sym (clear-malformed g ys c e w))
+
+-- a push that fills the cell i and grows the ring to h: what it comes to, its place, and that a store there is what it leaves
+abbrev pushes : RingBuffer → RingBuffer → List AckData → ℕ → AckData → Outcome (Option AckData)
+pushes g h ys i a = checks ((not (wellFormed g (length ys)), 12) ∷ []) (λ n. leaves (refuses n) g ys)
+    (cond (eqb (g .len) (length ys)) (leaves (answers (some a)) g ys) (leaves (answers none) h (set ys i a)))
+
+abbrev Stored : RingBuffer → RingBuffer → List AckData → ℕ → AckData → Type 0
+Stored g h ys i a = set ys (cond (wellFormed g (length ys) && not (eqb (g .len) (length ys))) i (length ys)) a ≡ pushes g h ys i a .cells
+
+push-cells : (g h : RingBuffer) (ys : List AckData) (i : ℕ) (a : AckData) → Stored g h ys i a
+push-cells g h ys i a = by (wellFormed g (length ys)) refl (eqb (g .len) (length ys)) refl
+  where
+    by : (b : Bool) → wellFormed g (length ys) ≡ b → (f : Bool) → eqb (g .len) (length ys) ≡ f → Stored g h ys i a
+    by false w f q = simp (w, set-out ys (length ys) a (le-refl _))
+    by true w true q = simp (w, q, set-out ys (length ys) a (le-refl _))
+    by true w false q = simp (w, q)
+
+pub back-cells : (g : RingBuffer) (ys : List AckData) (a : AckData) → set ys (backPlace g (length ys)) a ≡ pushBack g ys a .cells
+back-cells g ys a = push-cells g (grownBack g (length ys)) ys (g .tail) a
+
+pub front-cells : (g : RingBuffer) (ys : List AckData) (a : AckData) → set ys (frontPlace g (length ys)) a ≡ pushFront g ys a .cells
+front-cells g ys a = push-cells g (grownFront g (length ys)) ys (before (length ys) (g .head)) a
 
 -- where `clear` has a turn i left, the head is a cell, and i at most the number of cells
 pub turns-in : (g : RingBuffer) (c i : ℕ) → i < clearTurns g c → (g .head < c) × (i ≤ c)

@@ -15,7 +15,8 @@ use borrow.Author.Tests.{eqb-true, eqb-false}
 use Rattle.lists.proofs.Rotated.{rotated, length-rotated, rotated-on, rotated-set, getD-rotated}
 use Rattle.lists.proofs.Take.{drop-take}
 use Rattle.refusal.specs.Said.{answers}
-use Rattle.ring_buffer.specs.Ring.{blank, wellFormed, contents, fresh, before, grownBack, grownFront, popped, blanked, Outcome, leaves, isEmpty, isFull, pushBack, pushFront, popFront, front, clear}
+use Rattle.ring_buffer.specs.Ring.{blank, wellFormed, contents, fresh, before, grownBack, grownFront, popped, blanked, Outcome, leaves}
+use Rattle.ring_buffer.specs.Ring.{isEmpty, isFull, pushBack, pushFront, popFront, front, clear}
 use Rattle.ring_buffer.specs.declared.AckData.{AckData}
 use Rattle.ring_buffer.specs.declared.RingBuffer.{RingBuffer}
 use Rattle.ring_buffer.proofs.Positions.{Placed, nowhere, somewhere, room, placed, head-in, well, popped-none}
@@ -121,7 +122,8 @@ module _ (g : RingBuffer) (ys : List AckData) (w : wellFormed g (length ys) ≡ 
 
     front-keeps : wellFormed (grownFront g c) c ≡ true
     front-keeps = well (grownFront g c) c (omega (arith, spare)) place-in
-        (tail-is (omega (arith, spare)) ∙ ap (λ (p : ℕ). (p + g .len) % c) (sym (after-before c (g .head) inside)) ∙ mod-add-mod (place + 1) c (g .len) ∙ ap (λ (m : ℕ). m % c) {y = place + (g .len + 1)} (omega arith))
+        (tail-is (omega (arith, spare)) ∙ ap (λ (p : ℕ). (p + g .len) % c) (sym (after-before c (g .head) inside))
+        ∙ mod-add-mod (place + 1) c (g .len) ∙ ap (λ (m : ℕ). m % c) {y = place + (g .len + 1)} (omega arith))
 
     front-contents : contents (grownFront g c) (set ys place a) ≡ a ∷ contents g ys
     front-contents =
@@ -205,7 +207,8 @@ module _ (g : RingBuffer) (ys : List AckData) (w : wellFormed g (length ys) ≡ 
       let some : 0 < g .len = omega (arith, held) in
       let inside : g .head < c = head-in g c w (omega (arith, fits)) in
       let first : getD (contents g ys) 0 blank ≡ getD ys (g .head) blank = record-in 0 some ∙ ap (λ (i : ℕ). getD ys i blank) (rw add-zero (mod-eq-of-lt inside)) in
-      let rest : queue (popFront g ys) ≡ drop 1 (contents g ys) = ap queue (pop-held g ys c refl w held) ∙ ap (contents (popped g c 1)) (sym (blanked-one (g .head) ys inside)) ∙ popped-contents 1 some in
+      let rest : queue (popFront g ys) ≡ drop 1 (contents g ys) =
+      ap queue (pop-held g ys c refl w held) ∙ ap (contents (popped g c 1)) (sym (blanked-one (g .head) ys inside)) ∙ popped-contents 1 some in
       drop-cons (contents g ys) 0 blank (rw length-contents some) ∙ ap (λ (x : AckData). x ∷ drop 1 (contents g ys)) first ∙ ap (λ (l : List AckData). getD ys (g .head) blank ∷ l) (sym rest)
 
   pub popFront-says : (g .len ≡ 0 → ⊥) → popFront g ys .said ≡ answers (getD (contents g ys) 0 blank)

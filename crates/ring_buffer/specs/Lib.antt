@@ -1,3 +1,4 @@
 pub mod Ring
 pub mod Says
 pub mod Places
+pub mod Told

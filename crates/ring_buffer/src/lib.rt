@@ -5,11 +5,11 @@
 // proofs/Laws.antt relates these to the queue's records in order.
 use refusal::Refusal;
 ghost use mathlib.Core.Path.{_≡_};
-ghost use mathlib.Core.List.{List};
-ghost use lib.ListN.{length, getD, set};
+ghost use lib.ListN.{getD, set};
 ghost use Rattle.ring_buffer.specs.Ring.{blank, fresh, wellFormed, leaves, lenOf, isEmpty, isFull, pushBack, pushFront, popFront, front as frontOf, clear as clearOf};
 ghost use Rattle.ring_buffer.specs.Says.{countedSays, testedSays, pushedSays, poppedSays, peekedSays, clearedSays, ringPushed, ringPopped, ringCleared};
 ghost use Rattle.ring_buffer.specs.Places.{slotOf, poppedBy, backPlace, frontPlace, popPlace, clearTurns};
+ghost use Rattle.ring_buffer.specs.Told.{PushTold, PopTold, PeekTold, ClearTold};
 
 // The Rust's worker/writer.rs, `AckData`; the count has document 01's 32 bits.
 #[repr(C)]
@@ -173,16 +173,16 @@ fn back_place(ring: RingBuffer, capacity: usize) -> usize
     }
 }
 
-// What `push_back` answers on a run of so many cells.
-fn back_answer(ring: RingBuffer, capacity: usize, a: AckData) -> Pushed
-    ensures { λ r. ⌜ ((ys : List AckData) → length ys ≡ capacity → (pushedSays r ≡ pushBack ring ys a .said) × (ringPushed ring r ≡ pushBack ring ys a .ring)) ⌝ }
+// What `push_back` answers, with what it found in its place.
+fn back_answer(ring: RingBuffer, capacity: usize, found: AckData) -> Pushed
+    ensures { λ r. ⌜ PushTold backPlace pushBack ring capacity found r ⌝ }
 {
     let head = ring.head;
     let tail = ring.tail;
     let len = ring.len;
     if is_well_formed(ring, capacity) {
         if len == capacity {
-            return Pushed::Full(a);
+            return Pushed::Full(found);
         }
         let next = slot(tail, capacity, 1);
         let ring = RingBuffer {
@@ -212,15 +212,15 @@ fn front_place(ring: RingBuffer, capacity: usize) -> usize
     }
 }
 
-// What `push_front` answers on a run of so many cells.
-fn front_answer(ring: RingBuffer, capacity: usize, a: AckData) -> Pushed
-    ensures { λ r. ⌜ ((ys : List AckData) → length ys ≡ capacity → (pushedSays r ≡ pushFront ring ys a .said) × (ringPushed ring r ≡ pushFront ring ys a .ring)) ⌝ }
+// What `push_front` answers, with what it found in its place.
+fn front_answer(ring: RingBuffer, capacity: usize, found: AckData) -> Pushed
+    ensures { λ r. ⌜ PushTold frontPlace pushFront ring capacity found r ⌝ }
 {
     let tail = ring.tail;
     let len = ring.len;
     if is_well_formed(ring, capacity) {
         if len == capacity {
-            return Pushed::Full(a);
+            return Pushed::Full(found);
         }
         let place = front_place(ring, capacity);
         let ring = RingBuffer {
@@ -250,10 +250,9 @@ fn pop_place(ring: RingBuffer, capacity: usize) -> usize
     }
 }
 
-// What `pop_front` answers where a lay in its cell.
-fn pop_answer(ring: RingBuffer, capacity: usize, a: AckData) -> Popped
-    ensures { λ r. ⌜ ((ys : List AckData) → length ys ≡ capacity → a ≡ getD ys (popPlace ring capacity) blank
-        → (poppedSays r ≡ popFront ring ys .said) × (ringPopped ring r ≡ popFront ring ys .ring)) ⌝ }
+// What `pop_front` answers, with what it found in its place.
+fn pop_answer(ring: RingBuffer, capacity: usize, found: AckData) -> Popped
+    ensures { λ r. ⌜ PopTold ring capacity found r ⌝ }
 {
     let len = ring.len;
     if is_well_formed(ring, capacity) {
@@ -261,22 +260,22 @@ fn pop_answer(ring: RingBuffer, capacity: usize, a: AckData) -> Popped
             return Popped::Refused(Refusal::Empty);
         }
         let ring = popped_by(ring, capacity, 1);
-        Popped::Record(ring, a)
+        Popped::Record(ring, found)
     } else {
         Popped::Refused(Refusal::Malformed)
     }
 }
 
-// What `front` answers where a lies in its cell.
-fn peek_answer(ring: RingBuffer, capacity: usize, a: AckData) -> Peeked
-    ensures { λ r. ⌜ ((ys : List AckData) → length ys ≡ capacity → a ≡ getD ys (popPlace ring capacity) blank → peekedSays r ≡ frontOf ring ys) ⌝ }
+// What `front` answers, with what it found in its place.
+fn peek_answer(ring: RingBuffer, capacity: usize, found: AckData) -> Peeked
+    ensures { λ r. ⌜ PeekTold ring capacity found r ⌝ }
 {
     let len = ring.len;
     if is_well_formed(ring, capacity) {
         if len == 0 {
             return Peeked::Refused(Refusal::Empty);
         }
-        Peeked::Record(a)
+        Peeked::Record(found)
     } else {
         Peeked::Refused(Refusal::Malformed)
     }
@@ -294,9 +293,17 @@ fn clear_turns(ring: RingBuffer, capacity: usize) -> usize
     }
 }
 
-// What `clear` answers on a run of so many cells.
+// The cell that `clear` empties at its i-th turn.
+fn clear_place(ring: RingBuffer, capacity: usize, i: usize) -> usize
+    ensures { λ r. ⌜ r ≡ slotOf (ring .head) capacity i ⌝ }
+{
+    let head = ring.head;
+    slot(head, capacity, i)
+}
+
+// What `clear` answers.
 fn clear_answer(ring: RingBuffer, capacity: usize) -> Cleared
-    ensures { λ r. ⌜ ((ys : List AckData) → length ys ≡ capacity → (clearedSays r ≡ clearOf ring ys .said) × (ringCleared ring r ≡ clearOf ring ys .ring)) ⌝ }
+    ensures { λ r. ⌜ ClearTold ring capacity r ⌝ }
 {
     let len = ring.len;
     if is_well_formed(ring, capacity) {
@@ -307,15 +314,12 @@ fn clear_answer(ring: RingBuffer, capacity: usize) -> Cleared
     }
 }
 
-// The one function that writes a cell: a is stored at i, and what lay there is handed back. Past the end nothing is stored, and the blank record handed back.
+// The one function that writes a cell: a is stored at i, and what lay there is handed back. Past the end nothing is stored, and a itself handed back.
 pub fn swap_record(records: &mut [AckData], i: usize, a: AckData) -> AckData
-    ensures { λ r. ⌜ (r ≡ getD (now (records .entry)) i blank) × (now (records .exit) ≡ set (now (records .entry)) i a) ⌝ }
+    ensures { λ r. ⌜ (r ≡ getD (now (records .entry)) i a) × (now (records .exit) ≡ set (now (records .entry)) i a) ⌝ }
 {
     if records.len() <= i {
-        return AckData {
-            base_packet_num: 0,
-            num_packets_consumed: 0,
-        };
+        return a;
     }
     let old = records[i];
     records[i] = a;
@@ -341,8 +345,8 @@ pub fn push_back(ring: RingBuffer, records: &mut [AckData], a: AckData) -> Pushe
 {
     let capacity = records.len();
     let place = back_place(ring, capacity);
-    swap_record(records, place, a);
-    back_answer(ring, capacity, a)
+    let found = swap_record(records, place, a);
+    back_answer(ring, capacity, found)
 }
 
 // utils/ring_buffer.rs, `RingBuffer::push_front`.
@@ -351,25 +355,22 @@ pub fn push_front(ring: RingBuffer, records: &mut [AckData], a: AckData) -> Push
 {
     let capacity = records.len();
     let place = front_place(ring, capacity);
-    swap_record(records, place, a);
-    front_answer(ring, capacity, a)
+    let found = swap_record(records, place, a);
+    front_answer(ring, capacity, found)
 }
 
 // utils/ring_buffer.rs, `RingBuffer::pop_front`.
 pub fn pop_front(ring: RingBuffer, records: &mut [AckData]) -> Popped
     ensures { λ r. ⌜ leaves (poppedSays r) (ringPopped ring r) (now (records .exit)) ≡ popFront ring (now (records .entry)) ⌝ }
 {
+    let blank = AckData {
+        base_packet_num: 0,
+        num_packets_consumed: 0,
+    };
     let capacity = records.len();
     let place = pop_place(ring, capacity);
-    let old = swap_record(
-        records,
-        place,
-        AckData {
-            base_packet_num: 0,
-            num_packets_consumed: 0,
-        },
-    );
-    pop_answer(ring, capacity, old)
+    let found = swap_record(records, place, blank);
+    pop_answer(ring, capacity, found)
 }
 
 // utils/ring_buffer.rs, `RingBuffer::front`.
@@ -378,8 +379,8 @@ pub fn front(ring: RingBuffer, records: &[AckData]) -> Peeked
 {
     let capacity = records.len();
     let place = pop_place(ring, capacity);
-    let a = record_at(records, place);
-    peek_answer(ring, capacity, a)
+    let found = record_at(records, place);
+    peek_answer(ring, capacity, found)
 }
 
 // utils/ring_buffer.rs, `RingBuffer::clear`.
@@ -387,11 +388,10 @@ pub fn clear(ring: RingBuffer, records: &mut [AckData]) -> Cleared
     ensures { λ r. ⌜ leaves (clearedSays r) (ringCleared ring r) (now (records .exit)) ≡ clearOf ring (now (records .entry)) ⌝ }
 {
     let capacity = records.len();
-    let head = ring.head;
     let turns = clear_turns(ring, capacity);
     let mut i: usize = 0;
     while i < turns {
-        let place = slot(head, capacity, i);
+        let place = clear_place(ring, capacity, i);
         swap_record(
             records,
             place,
