@@ -2,7 +2,7 @@
 -- Assumes nothing.
 use Prim.Native.Nat.{ℕ, _+_}
 use mathlib.Core.Path.{_≡_, refl, sym, ap, _∙_}
-use mathlib.Core.Bool.{Bool, true, false, cond}
+use mathlib.Core.Bool.{Bool, true, false, true≢false, cond}
 use mathlib.Core.List.{List, [], _∷_}
 use mathlib.Core.Option.{Option, none, some}
 use native.Mathlib.Omega.{arith}
@@ -48,20 +48,21 @@ Past (PeerFinReceived m) = Unit
 Past (LocalFinSent m) = ⊥
 Past Closed = Unit
 
+-- a FIN in PeerFinReceived changes what is owed, or nothing
+owes-again : (b : Bool) (c : CloseBuffer) (n : ℕ) → cond b (owing (Number n) c) c ≡ owing (cond b (Number n) (c .«pending_fin_ack_send»)) c
+owes-again true c n = refl
+owes-again false c n = refl
+
 past-fin : (s : CloseState) (c : CloseBuffer) (n : ℕ) → c .state ≡ s → Past (finIn s c n .state)
 past-fin Active c n e = tt
-past-fin (PeerFinReceived m) c n e = by (eqb m n)
-  where
-    by : (b : Bool) → Past (cond b (owing (Number n) c) c .state)
-    by true = rw e tt
-    by false = rw e tt
+past-fin (PeerFinReceived m) c n e = rw (owes-again (eqb m n) c n, e) tt
 past-fin (LocalFinSent m) c n e = tt
 past-fin Closed c n e = rw e tt
 
 past-step : (c : CloseBuffer) (k : Call) → isLocalFin k ≡ false → Past (c .state) → Past (after c k .state)
 past-step c (fin n) w p = past-fin (c .state) c n refl
 past-step c (finAck n) w p = p
-past-step c (localFin n) w p = let z : _≡_ {A = ℕ} 0 1 = cc in absurd (omega arith)
+past-step c (localFin n) w p = absurd (true≢false w)
 past-step c close w p = tt
 past-step c take w p = p
 
@@ -71,11 +72,7 @@ past-run c (k ∷ ks) w p = past-run (after c k) ks (w .1) (past-step c k (w .0)
 
 only-owed : (s : CloseState) (c : CloseBuffer) (n : ℕ) → Past s → finIn s c n ≡ owing (finIn s c n .«pending_fin_ack_send») c
 only-owed Active c n p = absurd p
-only-owed (PeerFinReceived m) c n p = by (eqb m n)
-  where
-    by : (b : Bool) → cond b (owing (Number n) c) c ≡ owing (cond b (owing (Number n) c) c .«pending_fin_ack_send») c
-    by true = refl
-    by false = refl
+only-owed (PeerFinReceived m) c n p = rw (owes-again (eqb m n) c n)
 only-owed (LocalFinSent m) c n p = absurd p
 only-owed Closed c n p = refl
 
@@ -116,7 +113,7 @@ owed-after c take = refl
 
 -- ---- a second take with no FIN between answers none
 none-step : (c : CloseBuffer) (k : Call) → isFin k ≡ false → owed c ≡ none → owedAfter c k ≡ none
-none-step c (fin n) w e = let z : _≡_ {A = ℕ} 0 1 = cc in absurd (omega arith)
+none-step c (fin n) w e = absurd (true≢false w)
 none-step c (finAck n) w e = e
 none-step c (localFin n) w e = e
 none-step c close w e = e

@@ -22,12 +22,6 @@ taken-in (PeerFinReceived m) c n k = absurd (miss (0 ∷ 2 ∷ []) _ tt k)
 taken-in (LocalFinSent m) c n k = refl
 taken-in Closed c n k = absurd (miss (0 ∷ 2 ∷ []) _ tt k)
 
-enum-known-state : tie.Need-enum-known-state
-enum-known-state c = search needs
-
-enum-told : tie.Need-enum-told
-enum-told c = search needs
-
 returns : tie.Need-returns
 returns c = taken-in (c .before .args .c .state) (c .before .args .c) (c .before .args .n) (c .match .keys1)
 
@@ -37,8 +31,5 @@ returns-2 c = simp (c .before .before .state .given .1, eq-eqb _ _ (c .if1 .take
 returns-3 : tie.Need-returns-3
 returns-3 c = simp (c .before .before .state .given .1, ne-eqb _ _ (c .if1 .left))
 
-returns-4 : tie.Need-returns-4
-returns-4 c = search needs
-
 pub after-fin-spec : {M : Type 1} → statement M
-after-fin-spec = tie.close (tie.spec enum-known-state enum-told returns returns-2 returns-3 returns-4)
+after-fin-spec = tie.close (tie.spec (λ c. search needs) (λ c. search needs) returns returns-2 returns-3 (λ c. search needs))
