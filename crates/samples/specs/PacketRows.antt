@@ -81,13 +81,17 @@ unknown = head 7 0 7
 abbrev pub longest : List ℕ
 longest = headOf 3 255 227 7 ++ replicate 65507 0
 
-pub record ParserRows : Type 0 where
+-- the longest datagram, and one byte more
+pub record LongestRows : Type 0 where
   -- "At most 65,527 bytes .., else 11": before 3 (a byte too many), 4 (type 7), 2 (field 65,535) and 10 (no cell)
   pub bytes-65527 : BothParse longest three (answers 1) (0 ∷ 65507 ∷ 99 ∷ 99 ∷ 99 ∷ 99 ∷ [])
   pub too-long-before-tail : BothParse (longest ++ (0 ∷ [])) three (refuses 11) three
   pub too-long-before-type : BothParse (headOf 7 0 0 7 ++ replicate 65508 0) three (refuses 11) three
   pub too-long-before-payload : BothParse (headOf 3 255 255 7 ++ replicate 65508 0) three (refuses 11) three
   pub too-long-before-cell : BothParse (longest ++ (0 ∷ [])) [] (refuses 11) []
+
+pub record ParserRows : Type 0 where
+  pub longest-ones : LongestRows
   -- "Then under 20 bytes: 1": before 4 and 10
   pub no-byte : BothParse [] three (refusesAt 1 0) three
   pub bytes-19 : BothParse (replicate 19 0) three (refusesAt 1 0) three
