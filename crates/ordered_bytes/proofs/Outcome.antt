@@ -31,7 +31,7 @@ module _ (w s : ℕ) (marks : List Bool) (lengths store : List ℕ) where
   create-ways = by (shapeFits w marks lengths store) refl
     where
       by : (fits : Bool) → shapeFits w marks lengths store ≡ fits → Creating
-      by true e = makes (shaped e) (rw e)
+      by true e = makes (shaped w marks lengths store e) (rw e)
       by false e = malformed e (rw e)
 
 module _ (b : Buffer) (s : ℕ) where

@@ -13,6 +13,10 @@ use Rattle.ordered_bytes.proofs.WellFormed.{Good}
 use Rattle.slots.proofs.Ring.{wrap-zero}
 use Rattle.ordered_bytes.proofs.View.{held-at}
 
+pub held-mark : (m : Bool) (p : List ℕ) → isHeld (cond m (some p) none) ≡ m
+held-mark true p = refl
+held-mark false p = refl
+
 module _ (b : Buffer) where
   pub view-front : view b .front ≡ b .state .«front_number»
   unfolding view
@@ -21,10 +25,6 @@ module _ (b : Buffer) where
   pub view-width : view b .width ≡ width b
   unfolding view
   view-width = refl
-
-  held-mark : (m : Bool) (p : List ℕ) → isHeld (cond m (some p) none) ≡ m
-  held-mark true p = refl
-  held-mark false p = refl
 
   -- a place is held exactly if its slot is marked
   pub mark-at : {d : ℕ} → d < slots b → isHeld (placeAt (view b) d) ≡ getD (b .marks) (slotAt b d) false

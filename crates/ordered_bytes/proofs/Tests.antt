@@ -1,8 +1,8 @@
 -- The loop over the marks of refusal 12's test: a turn, and the end; and that two tests look at the marks alone.
 -- Assumes nothing.
 use Prim.Native.Nat.{ℕ, zero, suc, _+_, _-_, _≤_, _<_}
-use mathlib.Core.Path.{_≡_, refl, ap, _∙_}
-use mathlib.Core.Bool.{Bool, true, false, not, cond, _&&_, _||_}
+use mathlib.Core.Path.{_≡_, refl, sym, ap, _∙_}
+use mathlib.Core.Bool.{Bool, true, false, not, cond, _&&_, _||_, or-true, or-false}
 use mathlib.Core.Option.{Option, none, some}
 use mathlib.Core.List.{List, [], _∷_}
 use native.Mathlib.Omega.{arith}
@@ -16,6 +16,7 @@ use Rattle.ordered_bytes.specs.Receiver.{isHeld, anyHeld, numbersFit}
 use Rattle.ordered_bytes.specs.Buffer.{Buffer, bufferOf, slots, slotAt, inSlot, tabulate, view, wrap}
 use Rattle.lists.proofs.Order.{either}
 use Rattle.ordered_bytes.proofs.View.{length-held, held-at}
+use Rattle.ordered_bytes.proofs.Places.{held-mark}
 
 -- ---- the marks
 
@@ -30,14 +31,6 @@ pub marks-alone : (o : OrderedBytes) (marks : List Bool) → view (bufferOf o ma
 unfolding view
 marks-alone o marks = refl
 
-held-cond : (m : Bool) (p q : List ℕ) → isHeld (cond m (some p) none) ≡ isHeld (cond m (some q) none)
-held-cond true p q = refl
-held-cond false p q = refl
-
-held-mark : (m : Bool) → isHeld (cond m (some []) none) ≡ m
-held-mark true = refl
-held-mark false = refl
-
 same-fit : (k n : ℕ) (f g : ℕ → Option (List ℕ)) → ((i : ℕ) → isHeld (f i) ≡ isHeld (g i)) → numbersFit n (tabulate k f) ≡ numbersFit n (tabulate k g)
 unfolding numbersFit
 same-fit zero n f g same = refl
@@ -50,7 +43,7 @@ same-any (suc k) f g same = rw (same 0, same-any k (λ i. f (suc i)) (λ i. g (s
 
 module _ (b : Buffer) where
   same-marks : (d : ℕ) → isHeld (inSlot b (slotAt b d)) ≡ isHeld (cond (getD (b .marks) (slotAt b d) false) (some []) none)
-  same-marks d = held-cond (getD (b .marks) (slotAt b d) false) _ []
+  same-marks d = held-mark (getD (b .marks) (slotAt b d) false) _ ∙ sym (held-mark (getD (b .marks) (slotAt b d) false) [])
 
   pub fit-by-marks : (n : ℕ) → numbersFit n (view b .held) ≡ numbersFit n (view (bufferOf (b .state) (b .marks) [] []) .held)
   unfolding view
@@ -69,7 +62,7 @@ pub marked-step : (front d : ℕ) (marks : List Bool) → d < length marks
     → anyHeld (drop d (marked front marks)) ≡ (getD marks (wrap (length marks) (front + d)) false || anyHeld (drop (d + 1) (marked front marks)))
 marked-step front d marks h =
     any-step d (marked front marks) (rw (length-held (bare front marks)) h)
-    ∙ rw (held-at (bare front marks) h, held-mark (getD marks (wrap (length marks) (front + d)) false))
+    ∙ rw (held-at (bare front marks) h, held-mark (getD marks (wrap (length marks) (front + d)) false) [])
 
 -- all passed
 pub marked-ends : (front d : ℕ) (marks : List Bool) → length marks ≤ d → anyHeld (drop d (marked front marks)) ≡ false
@@ -79,14 +72,6 @@ marked-ends front d marks h =
     rw (drop-of-length-le (marked front marks) all)
 
 -- ---- numbers above 2^64 − 2 stand at the distances from 2^64 − 1 − front on
-
-or-false : (b : Bool) → (b || false) ≡ b
-or-false true = refl
-or-false false = refl
-
-or-true : (b : Bool) → (b || true) ≡ true
-or-true true = refl
-or-true false = refl
 
 not-or : (a b : Bool) → (not a && not b) ≡ not (a || b)
 not-or true b = refl

@@ -174,10 +174,11 @@ module _ {b : Buffer} (g : Good b) where
     taken-later {d} later h =
         let front = b .state .«front_slot» in
         let i = slotAt b d in
+        let ends = slot-ends (slot-below (le-of-lt h)) in
         rw (
           cleared-later (slots b) false front d k (b .marks) false (g .front-n) later h,
           cleared-later (slots b) 0 front d k (b .lengths) 0 (g .front-n) later h,
-          part-before (b .store) c (i * width b) (getD (b .lengths) i 0) (slots b * width b) (length c) (omega (arith, store-long)) (omega (arith, slot-ends (slot-below (le-of-lt h)), g .lengths-w i)),
+          part-before (b .store) c (i * width b) (getD (b .lengths) i 0) (slots b * width b) (length c) (omega (arith, store-long)) (omega (arith, g .lengths-w i)),
         )
 
     taken-cleared : {d : ℕ} → d < k → inSlot (taken b k c) (slotAt b d) ≡ none

@@ -12,7 +12,8 @@ use lib.ListN.{length, drop, getD, length-take, length-drop, length-append, drop
 use lib.Seq.{drop-cons}
 use lib.Dec.{ltb}
 use borrow.Author.Tests.{ltb-true, ltb-false, lt-ltb, le-ltb, eqb-true, eqb-false}
-use Rattle.ordered_bytes.specs.Receiver.{Receiver, Walk, Read, isHeld, placeAt, base, nothing, whole, split, walk, payloads, carryPart, carryAndPackets, consumed, carryPiece, takenPayloads, pieces, consumedPieces}
+use Rattle.ordered_bytes.specs.Receiver.{Receiver, Walk, Read, isHeld, placeAt, base, nothing, whole, split, walk, payloads}
+use Rattle.ordered_bytes.specs.Receiver.{carryPart, carryAndPackets, consumed, carryPiece, takenPayloads, pieces, consumedPieces}
 use Rattle.lists.proofs.Order.{either}
 
 -- ---- a step, by what stands at distance k

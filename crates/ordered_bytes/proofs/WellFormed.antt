@@ -37,8 +37,8 @@ pub record Shaped (w : ℕ) (marks : List Bool) (lengths store : List ℕ) : Typ
   pub lengths-n : length lengths ≡ length marks
   pub store-n : length store ≡ (length marks + 1) * w
 
-pub shaped : {w : ℕ} {marks : List Bool} {lengths store : List ℕ} → shapeFits w marks lengths store ≡ true → Shaped w marks lengths store
-shaped {w} {marks} e =
+pub shaped : (w : ℕ) (marks : List Bool) (lengths store : List ℕ) → shapeFits w marks lengths store ≡ true → Shaped w marks lengths store
+shaped w marks lengths store e =
     let n = both e in
     let m = both (n .1) in
     let l = both (m .1) in
@@ -96,7 +96,7 @@ good {b} e =
     let c = both (f .1) in
     let l = both (c .1) in
     record {
-      shape = shaped (s .0);
+      shape = shaped (width b) (b .marks) (b .lengths) (b .store) (s .0);
       front-n = ltb-true _ _ (f .0);
       carry-w = leb-true _ _ (c .0);
       lengths-w = within (width b) (b .lengths) (l .0);

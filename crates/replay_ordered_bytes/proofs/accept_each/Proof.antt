@@ -7,7 +7,8 @@ use Rattle.replay_ordered_bytes.proofs.accept_each.Statement.{statement
 use Rattle.replay_ordered_bytes.proofs.accept_each.Tie as tie
 
 abbrev Inv-loop : tie.InvT-loop
-Inv-loop o first count payload₀ marks₀ lengths₀ store₀ i₀ payload marks lengths store i = (i ≤ count) × (length payload ≡ length payload₀) × (length marks ≡ length marks₀) × (length lengths ≡ length lengths₀) × (length store ≡ length store₀)
+Inv-loop o first count payload₀ marks₀ lengths₀ store₀ i₀ payload marks lengths store i =
+    (i ≤ count) × (length payload ≡ length payload₀) × (length marks ≡ length marks₀) × (length lengths ≡ length lengths₀) × (length store ≡ length store₀)
 
 abbrev μ-loop : tie.MeasureT-loop
 μ-loop o first count payload₀ marks₀ lengths₀ store₀ i₀ payload marks lengths store i = count - i

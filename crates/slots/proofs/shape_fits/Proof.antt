@@ -32,12 +32,14 @@ mul-result c =
 returns-5 : tie.Need-returns-5
 returns-5 c =
     let past = c .before in
-    simp (le-leb _ _ (past .before .before .before .if1 .left), le-leb _ _ (past .before .before .if2 .left), le-leb _ _ (past .before .if3 .left), le-leb _ _ (past .if4 .left), eq-eqb _ _ (c .if5 .taken))
+    let early = past .before in
+    simp (le-leb _ _ (early .before .before .if1 .left), le-leb _ _ (early .before .if2 .left), le-leb _ _ (early .if3 .left), le-leb _ _ (past .if4 .left), eq-eqb _ _ (c .if5 .taken))
 
 returns-6 : tie.Need-returns-6
 returns-6 c =
     let past = c .before in
-    simp (le-leb _ _ (past .before .before .before .if1 .left), le-leb _ _ (past .before .before .if2 .left), le-leb _ _ (past .before .if3 .left), le-leb _ _ (past .if4 .left), ne-eqb _ _ (c .if5 .left))
+    let early = past .before in
+    simp (le-leb _ _ (early .before .before .if1 .left), le-leb _ _ (early .before .if2 .left), le-leb _ _ (early .if3 .left), le-leb _ _ (past .if4 .left), ne-eqb _ _ (c .if5 .left))
 
 pub shape-fits-spec : {M : Type 1} → statement M
 shape-fits-spec = tie.close (tie.spec returns returns-2 returns-3 returns-4 (λ c. search needs) mul-result returns-5 returns-6)
