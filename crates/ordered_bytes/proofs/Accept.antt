@@ -1,23 +1,27 @@
--- Accepting in the code's steps: each refusal once the checks before it have passed, and the stored payload.
+-- Accepting in the code's steps: the first two refusals, and for a number that has a slot what is left to check, on the lent lists.
 -- Assumes nothing.
 use Prim.Native.Nat.{ℕ, _-_, _≤_, _<_}
-use mathlib.Core.Path.{_≡_, _∙_}
-use mathlib.Core.Logic.{_≢_}
+use mathlib.Core.Path.{_≡_}
 use mathlib.Core.Bool.{true, false}
-use mathlib.Core.List.{List}
+use mathlib.Core.List.{List, [], _∷_}
 use lib.ListN.{length, getD}
-use borrow.Author.Tests.{lt-ltb, le-ltb, le-leb, lt-leb, eq-eqb, ne-eqb}
-use Rattle.refusal.specs.Said.{answers, refuses}
+use lib.Dec.{ltb, eqb}
+use borrow.Author.Tests.{lt-ltb, le-ltb, le-leb, lt-leb}
+use Rattle.refusal.specs.Said.{answers, refuses, checks}
 use Rattle.lists.specs.Numbers.{largest}
 use Rattle.ordered_bytes.specs.Buffer.{Buffer, slots, width, slotAt, wellFormed, stored}
 use Rattle.ordered_bytes.specs.Calls.{Acceptance, accepting}
 use Rattle.ordered_bytes.proofs.View.{length-held}
 use Rattle.ordered_bytes.proofs.Places.{view-front, view-width, mark-at}
 
-module _ (b : Buffer) (n : ℕ) (payload : List ℕ) (well : wellFormed b ≡ true) where
-  abbrev distance : ℕ
-  distance = n - b .state .«front_number»
+-- what is left to check of a number that has a slot, and what is left then
+abbrev pub acceptingIn : ℕ → Buffer → ℕ → List ℕ → Acceptance
+acceptingIn slot b n payload =
+    checks ((eqb n largest, 9) ∷ (getD (b .marks) slot false, 7) ∷ (ltb (width b) (length payload), 11) ∷ [])
+    (λ r. record { said = refuses r; buffer = b })
+    (record { said = answers tt; buffer = stored b slot payload })
 
+module _ (b : Buffer) (n : ℕ) (payload : List ℕ) (well : wellFormed b ≡ true) where
   abbrev Refuses : ℕ → Type 0
   Refuses r = _≡_ {A = Acceptance} (record { said = refuses r; buffer = b }) (accepting b n payload)
 
@@ -25,28 +29,11 @@ module _ (b : Buffer) (n : ℕ) (payload : List ℕ) (well : wellFormed b ≡ tr
   unfolding accepting
   refuses-below below = simp (well, view-front b, lt-ltb _ _ below)
 
-  module _ (low : b .state .«front_number» ≤ n) where
-    pub refuses-beyond : slots b ≤ distance → Refuses 6
-    unfolding accepting
-    refuses-beyond far = simp (well, view-front b, length-held b, le-ltb _ _ low, le-leb _ _ far)
+  pub refuses-beyond : b .state .«front_number» ≤ n → slots b ≤ n - b .state .«front_number» → Refuses 6
+  unfolding accepting
+  refuses-beyond low far = simp (well, view-front b, length-held b, le-ltb _ _ low, le-leb _ _ far)
 
-    module _ (near : distance < slots b) where
-      pub refuses-last : n ≡ largest → Refuses 9
-      unfolding accepting
-      refuses-last last = simp (well, view-front b, length-held b, le-ltb _ _ low, lt-leb _ _ near, eq-eqb _ _ last)
-
-      module _ (more : n ≢ largest) where
-        pub refuses-held : getD (b .marks) (slotAt b distance) false ≡ true → Refuses 7
-        unfolding accepting
-        refuses-held mark = simp (well, view-front b, length-held b, le-ltb _ _ low, lt-leb _ _ near, ne-eqb _ _ more, mark-at b near ∙ mark)
-
-        module _ (free : getD (b .marks) (slotAt b distance) false ≡ false) where
-          pub refuses-long : width b < length payload → Refuses 11
-          unfolding accepting
-          refuses-long long =
-              simp (well, view-front b, view-width b, length-held b, le-ltb _ _ low, lt-leb _ _ near, ne-eqb _ _ more, mark-at b near ∙ free, lt-ltb _ _ long)
-
-          pub accepts : length payload ≤ width b → _≡_ {A = Acceptance} (record { said = answers tt; buffer = stored b (slotAt b distance) payload }) (accepting b n payload)
-          unfolding accepting
-          accepts fits =
-              simp (well, view-front b, view-width b, length-held b, le-ltb _ _ low, lt-leb _ _ near, ne-eqb _ _ more, mark-at b near ∙ free, le-ltb _ _ fits)
+  pub accepts-near : {slot : ℕ} → b .state .«front_number» ≤ n → n - b .state .«front_number» < slots b → slot ≡ slotAt b (n - b .state .«front_number»)
+      → accepting b n payload ≡ acceptingIn slot b n payload
+  unfolding accepting
+  accepts-near low near here = rw here (simp (well, view-front b, view-width b, length-held b, le-ltb _ _ low, lt-leb _ _ near, mark-at b near))

@@ -16,12 +16,11 @@ use Rattle.ordered_bytes.specs.declared.pieces.Payloads.{Payloads}
 use Rattle.ordered_bytes.specs.declared.pieces.Pieces.{Pieces}
 use Rattle.ordered_bytes.specs.Receiver.{carryPiece, takenPayloads, pieces, base}
 use Rattle.ordered_bytes.specs.Buffer.{Buffer, view, wellFormed, taken}
-use Rattle.ordered_bytes.specs.Calls.{PieceConsumption, consumingBytes}
+use Rattle.ordered_bytes.specs.Calls.{PieceConsumption, givenPieces, consumingBytes}
 use Rattle.ordered_bytes.specs.Steps.{heldPayloads, piecesOf, PayloadsCounted, PiecesCounted, RoomFor, PiecesCopied, pieceChecks, piecesSays}
 use Rattle.ordered_bytes.proofs.WellFormed.{Good}
 use Rattle.ordered_bytes.proofs.View.{length-carry}
 use Rattle.ordered_bytes.proofs.Walk.{payloads-again, flatten-carry, flatten-pieces}
-use Rattle.ordered_bytes.proofs.Outcome.{givenPieces}
 
 -- "carry-over is one piece", and "a carry-over length of 0 means none"
 carry-count : (c : List ℕ) → length (carryPiece c) ≡ cond (eqb (length c) 0) 0 1

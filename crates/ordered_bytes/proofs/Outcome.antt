@@ -5,18 +5,17 @@ use mathlib.Core.Path.{_≡_, refl, sym, ap, _∙_}
 use mathlib.Core.Logic.{_⊎_, inl, inr, _≢_}
 use mathlib.Core.Bool.{Bool, true, false, not}
 use mathlib.Core.Option.{none}
-use mathlib.Core.List.{List, _∷_, map, flatten}
+use mathlib.Core.List.{List, _∷_, flatten}
 use native.Mathlib.Omega.{arith}
 use lib.ListN.{length}
-use lib.Seq.{paste}
 use lib.Dec.{ltb, eqb}
 use borrow.Author.Tests.{ltb-true, ltb-false, leb-false, eqb-true, eqb-false, not-true, not-false}
 use Rattle.refusal.specs.Said.{answers, refuses}
 use Rattle.refusal.proofs.Checks.{Failed, Checked, passes, fails, checked}
 use Rattle.lists.specs.Numbers.{largest}
-use Rattle.ordered_bytes.specs.Receiver.{isHeld, placeAt, acceptChecks, consumed, consumedPieces, pieces, anyHeld}
-use Rattle.ordered_bytes.specs.Buffer.{Buffer, slots, width, slotAt, view, wellFormed, shapeFits, stored, taken}
-use Rattle.ordered_bytes.specs.Calls.{creating, starting, Acceptance, accepting, Consumption, given, consuming, PieceConsumption, consumingBytes}
+use Rattle.ordered_bytes.specs.Receiver.{isHeld, placeAt, acceptChecks, consumed, pieces, anyHeld}
+use Rattle.ordered_bytes.specs.Buffer.{Buffer, slots, width, slotAt, view, wellFormed, shapeFits, stored}
+use Rattle.ordered_bytes.specs.Calls.{creating, starting, Acceptance, accepting, Consumption, given, consuming, PieceConsumption, givenPieces, consumingBytes}
 use Rattle.ordered_bytes.proofs.WellFormed.{Shaped, shaped, Good, good}
 use Rattle.ordered_bytes.proofs.View.{fresh, length-held}
 
@@ -129,18 +128,6 @@ module _ (b : Buffer) (len : ℕ) (out : List ℕ) where
         | short g s e ↦ rw e (refusing 10 (λ q. omega arith))
         | reads g s e ↦ rw e (passing g s)
       ]
-
--- what `consume_bytes` leaves where no check holds
-abbrev pub givenPieces : Buffer → ℕ → List ℕ → List ℕ → PieceConsumption
-givenPieces b limit out list =
-    let r = consumedPieces (view b) limit in
-    let ps = pieces (view b) limit in
-    record {
-      said = answers ((r .packets, r .base, length (r .bytes)), length ps);
-      buffer = taken b (r .packets) (r .carry);
-      out = paste out 0 (r .bytes) (length (r .bytes));
-      list = paste list 0 (map length ps) (length ps);
-    }
 
 module _ (b : Buffer) (limit : ℕ) (out list : List ℕ) where
   pub data ConsumingBytes : Type 0 where

@@ -144,7 +144,19 @@ pieceConsumptionOf r marks lengths store out list = record {
   list = list;
 }
 
--- "Pieces are copied to a lent buffer, their lengths to a lent list (32 bits each; 10 if either is short). No piece: 8."
+-- "Pieces are copied to a lent buffer, their lengths to a lent list"
+abbrev pub givenPieces : Buffer → ℕ → List ℕ → List ℕ → PieceConsumption
+givenPieces b limit out list =
+    let r = consumedPieces (view b) limit in
+    let ps = pieces (view b) limit in
+    record {
+      said = answers ((r .packets, r .base, length (r .bytes)), length ps);
+      buffer = taken b (r .packets) (r .carry);
+      out = paste out 0 (r .bytes) (length (r .bytes));
+      list = paste list 0 (map length ps) (length ps);
+    }
+
+-- "(32 bits each; 10 if either is short). No piece: 8."
 unfoldable pub consumingBytes : Buffer → ℕ → List ℕ → List ℕ → PieceConsumption
 consumingBytes b limit out list =
     let r = consumedPieces (view b) limit in
@@ -156,9 +168,4 @@ consumingBytes b limit out list =
     ∷ (r .empty, 8)
     ∷ [])
     (λ n. record { said = refuses n; buffer = b; out = out; list = list })
-    (record {
-      said = answers ((r .packets, r .base, length (r .bytes)), length ps);
-      buffer = taken b (r .packets) (r .carry);
-      out = paste out 0 (r .bytes) (length (r .bytes));
-      list = paste list 0 (map length ps) (length ps);
-    })
+    (givenPieces b limit out list)
