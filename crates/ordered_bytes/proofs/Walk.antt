@@ -196,16 +196,17 @@ pub record Took (r : Receiver) (x : Read) : Type 0 where
 pub took-few : {r : Receiver} {x : Read} → Took r x → x .packets ≤ length (r .held)
 took-few {r} {x} t = omega (arith, t .were, payloads-most (x .packets) (r .held))
 
--- where payloads were taken, the front place was held
-front-held : (k : ℕ) (h : List (Option (List ℕ))) → length (payloads k h) ≡ k → 0 < k → isHeld (getD h 0 none) ≡ true
+-- where k payloads were taken, each of the first k places was held
+pub front-held : (k : ℕ) (h : List (Option (List ℕ))) (i : ℕ) → length (payloads k h) ≡ k → i < k → isHeld (getD h i none) ≡ true
 unfolding payloads
-front-held zero h e taken = absurd (omega arith)
-front-held (suc k) [] e taken = absurd (omega arith)
-front-held (suc k) (none ∷ h) e taken = absurd (omega arith)
-front-held (suc k) (some p ∷ h) e taken = refl
+front-held zero h i e less = absurd (omega arith)
+front-held (suc k) [] i e less = absurd (omega arith)
+front-held (suc k) (none ∷ h) i e less = absurd (omega arith)
+front-held (suc k) (some p ∷ h) zero e less = refl
+front-held (suc k) (some p ∷ h) (suc i) e less = front-held k h i (omega arith) (omega arith)
 
 base-first : (r : Receiver) (k : ℕ) → length (payloads k (r .held)) ≡ k → 0 < k → base r ≡ r .front
-base-first r k e taken = rw (front-held k (r .held) e taken)
+base-first r k e taken = rw (front-held k (r .held) 0 e taken)
 
 took-part : (r : Receiver) (len : ℕ) → Took r (carryPart r len)
 unfolding payloads flatten
