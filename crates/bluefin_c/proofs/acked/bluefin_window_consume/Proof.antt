@@ -5,18 +5,8 @@ use borrow.Author.Needs.{needs}
 use Rattle.bluefin_c.proofs.acked.bluefin_window_consume.Statement.{statement}
 use Rattle.bluefin_c.proofs.acked.bluefin_window_consume.Tie as tie
 
-consume-requires : tie.Need-consume-requires
-consume-requires c κs = search needs
-
-run-of-requires : tie.Need-run-of-requires
-run-of-requires c κs = search needs
-
-same-length : tie.Need-same-length
-same-length c = search needs
-
 returns : tie.Need-returns
 returns c = flat-window runOf (c .run-of .ensures) (c .before .before .before .consume .ensures)
 
 pub bluefin-window-consume-spec : {M : Type 1} → statement M
-bluefin-window-consume-spec =
-    tie.close (tie.spec consume-requires run-of-requires same-length returns)
+bluefin-window-consume-spec = tie.close (tie.spec (λ c κs. search needs) (λ c κs. search needs) (λ c. search needs) returns)

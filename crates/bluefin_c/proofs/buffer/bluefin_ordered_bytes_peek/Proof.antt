@@ -5,14 +5,8 @@ use Rattle.refusal.specs.Said.{refusalIn}
 use Rattle.bluefin_c.proofs.buffer.bluefin_ordered_bytes_peek.Statement.{statement}
 use Rattle.bluefin_c.proofs.buffer.bluefin_ordered_bytes_peek.Tie as tie
 
-peek-requires : tie.Need-peek-requires
-peek-requires c κs = search needs
-
-peeked-of-requires : tie.Need-peeked-of-requires
-peeked-of-requires c κs = search needs
-
 returns : tie.Need-returns
 returns c = c .peeked-of .ensures ∙ ap refusalIn (c .before .peek .ensures)
 
 pub bluefin-ordered-bytes-peek-spec : {M : Type 1} → statement M
-bluefin-ordered-bytes-peek-spec = tie.close (tie.spec peek-requires peeked-of-requires returns)
+bluefin-ordered-bytes-peek-spec = tie.close (tie.spec (λ c κs. search needs) (λ c κs. search needs) returns)

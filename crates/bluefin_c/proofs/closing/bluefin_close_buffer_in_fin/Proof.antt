@@ -6,22 +6,10 @@ use borrow.Author.Needs.{needs}
 use Rattle.bluefin_c.proofs.closing.bluefin_close_buffer_in_fin.Statement.{statement}
 use Rattle.bluefin_c.proofs.closing.bluefin_close_buffer_in_fin.Tie as tie
 
-malformed-requires : tie.Need-malformed-requires
-malformed-requires c κs = search needs
-
 returns : tie.Need-returns
 returns c =
     let a = c .before .before .before .args in
     refused-close (a .c) (λ b. afterFin b (a .n)) (c .before .if1 .taken) (c .malformed .ensures)
-
-close-in-requires : tie.Need-close-in-requires
-close-in-requires c κs = search needs
-
-after-fin-requires : tie.Need-after-fin-requires
-after-fin-requires c κs = search needs
-
-close-after-requires : tie.Need-close-after-requires
-close-after-requires c κs = search needs
 
 returns-2 : tie.Need-returns-2
 returns-2 c =
@@ -30,12 +18,4 @@ returns-2 c =
     moved-close (a .c) (λ b. afterFin b (a .n)) (read .before .if1 .left) (c .close-after .ensures) (c .before .after-fin .ensures ∙ ap (λ b. afterFin b (a .n)) (read .close-in .ensures))
 
 pub bluefin-close-buffer-in-fin-spec : {M : Type 1} → statement M
-bluefin-close-buffer-in-fin-spec =
-    tie.close
-    (tie.spec
-    malformed-requires
-    returns
-    close-in-requires
-    after-fin-requires
-    close-after-requires
-    returns-2)
+bluefin-close-buffer-in-fin-spec = tie.close (tie.spec (λ c κs. search needs) returns (λ c κs. search needs) (λ c κs. search needs) (λ c κs. search needs) returns-2)

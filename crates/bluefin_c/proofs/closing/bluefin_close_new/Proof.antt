@@ -5,14 +5,8 @@ use borrow.Author.Needs.{needs}
 use Rattle.bluefin_c.proofs.closing.bluefin_close_new.Statement.{statement}
 use Rattle.bluefin_c.proofs.closing.bluefin_close_new.Tie as tie
 
-new-requires : tie.Need-new-requires
-new-requires c κs = search needs
-
-flat-close-requires : tie.Need-flat-close-requires
-flat-close-requires c κs = search needs
-
 returns : tie.Need-returns
 returns c = c .flat-close .ensures ∙ ap flatClose (c .before .new .ensures)
 
 pub bluefin-close-new-spec : {M : Type 1} → statement M
-bluefin-close-new-spec = tie.close (tie.spec new-requires flat-close-requires returns)
+bluefin-close-new-spec = tie.close (tie.spec (λ c κs. search needs) (λ c κs. search needs) returns)

@@ -8,22 +8,10 @@ use Rattle.bluefin_c.proofs.closing.bluefin_close_record_local_fin_sent
 }
 use Rattle.bluefin_c.proofs.closing.bluefin_close_record_local_fin_sent.Tie as tie
 
-malformed-requires : tie.Need-malformed-requires
-malformed-requires c κs = search needs
-
 returns : tie.Need-returns
 returns c =
     let a = c .before .before .before .args in
     refused-close (a .c) (λ b. afterLocalFin b (a .n)) (c .before .if1 .taken) (c .malformed .ensures)
-
-close-in-requires : tie.Need-close-in-requires
-close-in-requires c κs = search needs
-
-after-local-fin-requires : tie.Need-after-local-fin-requires
-after-local-fin-requires c κs = search needs
-
-close-after-requires : tie.Need-close-after-requires
-close-after-requires c κs = search needs
 
 returns-2 : tie.Need-returns-2
 returns-2 c =
@@ -32,12 +20,4 @@ returns-2 c =
     moved-close (a .c) (λ b. afterLocalFin b (a .n)) (read .before .if1 .left) (c .close-after .ensures) (c .before .after-local-fin .ensures ∙ ap (λ b. afterLocalFin b (a .n)) (read .close-in .ensures))
 
 pub bluefin-close-record-local-fin-sent-spec : {M : Type 1} → statement M
-bluefin-close-record-local-fin-sent-spec =
-    tie.close
-    (tie.spec
-    malformed-requires
-    returns
-    close-in-requires
-    after-local-fin-requires
-    close-after-requires
-    returns-2)
+bluefin-close-record-local-fin-sent-spec = tie.close (tie.spec (λ c κs. search needs) returns (λ c κs. search needs) (λ c κs. search needs) (λ c κs. search needs) returns-2)

@@ -3,18 +3,8 @@ use borrow.Author.Needs.{needs}
 use Rattle.bluefin_c.proofs.hello.bluefin_is_hello_packet.Statement.{statement}
 use Rattle.bluefin_c.proofs.hello.bluefin_is_hello_packet.Tie as tie
 
-host-in-requires : tie.Need-host-in-requires
-host-in-requires c κs = search needs
-
-header-in-requires : tie.Need-header-in-requires
-header-in-requires c κs = search needs
-
-is-hello-packet-requires : tie.Need-is-hello-packet-requires
-is-hello-packet-requires c κs = search needs
-
 returns : tie.Need-returns
 returns c = simp (c .is-hello-packet .ensures, c .before .header-in .ensures, c .before .before .host-in .ensures)
 
 pub bluefin-is-hello-packet-spec : {M : Type 1} → statement M
-bluefin-is-hello-packet-spec =
-    tie.close (tie.spec host-in-requires header-in-requires is-hello-packet-requires returns)
+bluefin-is-hello-packet-spec = tie.close (tie.spec (λ c κs. search needs) (λ c κs. search needs) (λ c κs. search needs) returns)

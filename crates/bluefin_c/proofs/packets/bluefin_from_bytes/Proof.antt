@@ -5,18 +5,8 @@ use borrow.Author.Needs.{needs}
 use Rattle.bluefin_c.proofs.packets.bluefin_from_bytes.Statement.{statement}
 use Rattle.bluefin_c.proofs.packets.bluefin_from_bytes.Tie as tie
 
-from-bytes-requires : tie.Need-from-bytes-requires
-from-bytes-requires c κs = search needs
-
-parsed-of-requires : tie.Need-parsed-of-requires
-parsed-of-requires c κs = search needs
-
-same-length : tie.Need-same-length
-same-length c = search needs
-
 returns : tie.Need-returns
 returns c = flat-first parsedOf (c .parsed-of .ensures) (c .before .before .before .from-bytes .ensures)
 
 pub bluefin-from-bytes-spec : {M : Type 1} → statement M
-bluefin-from-bytes-spec =
-    tie.close (tie.spec from-bytes-requires parsed-of-requires same-length returns)
+bluefin-from-bytes-spec = tie.close (tie.spec (λ c κs. search needs) (λ c κs. search needs) (λ c. search needs) returns)

@@ -9,23 +9,8 @@ use borrow.Author.Needs.{needs}
 use Rattle.bluefin_c.proofs.packets.bluefin_packet_serialise_into.Statement.{statement}
 use Rattle.bluefin_c.proofs.packets.bluefin_packet_serialise_into.Tie as tie
 
-written-of-requires : tie.Need-written-of-requires
-written-of-requires c κs = search needs
-
 returns : tie.Need-returns
 returns c = simp (c .written-of .ensures, le-ltb _ _ (c .before .if1 .taken))
-
-header-in-requires : tie.Need-header-in-requires
-header-in-requires c κs = search needs
-
-serialise-into-requires : tie.Need-serialise-into-requires
-serialise-into-requires c κs = search needs
-
-packet-written-of-requires : tie.Need-packet-written-of-requires
-packet-written-of-requires c κs = search needs
-
-same-length : tie.Need-same-length
-same-length c = search needs
 
 returns-2 : tie.Need-returns-2
 returns-2 c =
@@ -39,12 +24,4 @@ returns-2 c =
 
 pub bluefin-packet-serialise-into-spec : {M : Type 1} → statement M
 bluefin-packet-serialise-into-spec =
-    tie.close
-    (tie.spec
-    written-of-requires
-    returns
-    header-in-requires
-    serialise-into-requires
-    packet-written-of-requires
-    same-length
-    returns-2)
+    tie.close (tie.spec (λ c κs. search needs) returns (λ c κs. search needs) (λ c κs. search needs) (λ c κs. search needs) (λ c. search needs) returns-2)

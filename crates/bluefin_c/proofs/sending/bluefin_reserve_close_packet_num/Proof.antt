@@ -5,15 +5,8 @@ use borrow.Author.Needs.{needs}
 use Rattle.bluefin_c.proofs.sending.bluefin_reserve_close_packet_num.Statement.{statement}
 use Rattle.bluefin_c.proofs.sending.bluefin_reserve_close_packet_num.Tie as tie
 
-reserve-close-packet-num-requires : tie.Need-reserve-close-packet-num-requires
-reserve-close-packet-num-requires c κs = search needs
-
-reserved-of-requires : tie.Need-reserved-of-requires
-reserved-of-requires c κs = search needs
-
 returns : tie.Need-returns
 returns c = c .reserved-of .ensures ∙ ap reservedOf (c .before .reserve-close-packet-num .ensures)
 
 pub bluefin-reserve-close-packet-num-spec : {M : Type 1} → statement M
-bluefin-reserve-close-packet-num-spec =
-    tie.close (tie.spec reserve-close-packet-num-requires reserved-of-requires returns)
+bluefin-reserve-close-packet-num-spec = tie.close (tie.spec (λ c κs. search needs) (λ c κs. search needs) returns)

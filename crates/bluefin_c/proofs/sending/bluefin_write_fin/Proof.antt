@@ -5,18 +5,8 @@ use borrow.Author.Needs.{needs}
 use Rattle.bluefin_c.proofs.sending.bluefin_write_fin.Statement.{statement}
 use Rattle.bluefin_c.proofs.sending.bluefin_write_fin.Tie as tie
 
-write-fin-requires : tie.Need-write-fin-requires
-write-fin-requires c κs = search needs
-
-written-of-requires : tie.Need-written-of-requires
-written-of-requires c κs = search needs
-
-same-length : tie.Need-same-length
-same-length c = search needs
-
 returns : tie.Need-returns
 returns c = flat-first writtenOf (c .written-of .ensures) (c .before .before .before .write-fin .ensures)
 
 pub bluefin-write-fin-spec : {M : Type 1} → statement M
-bluefin-write-fin-spec =
-    tie.close (tie.spec write-fin-requires written-of-requires same-length returns)
+bluefin-write-fin-spec = tie.close (tie.spec (λ c κs. search needs) (λ c κs. search needs) (λ c. search needs) returns)

@@ -6,8 +6,5 @@ use Rattle.flat.proofs.closing.fin_number_in.Tie as tie
 returns : tie.Need-returns
 returns c = simp (c .if1 .taken)
 
-returns-2 : tie.Need-returns-2
-returns-2 c = search needs
-
 pub fin-number-in-spec : {M : Type 1} → statement M
-fin-number-in-spec = tie.close (tie.spec returns returns-2)
+fin-number-in-spec = tie.close (tie.spec returns (λ c. search needs))

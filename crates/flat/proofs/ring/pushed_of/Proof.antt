@@ -3,21 +3,6 @@ use borrow.Author.Needs.{needs}
 use Rattle.flat.proofs.ring.pushed_of.Statement.{statement}
 use Rattle.flat.proofs.ring.pushed_of.Tie as tie
 
-no-record-requires : tie.Need-no-record-requires
-no-record-requires c κs = search needs
-
-enum-known-answer : tie.Need-enum-known-answer
-enum-known-answer c = search needs
-
-enum-known-answer-2 : tie.Need-enum-known-answer-2
-enum-known-answer-2 c = search needs
-
-enum-known-answer-3 : tie.Need-enum-known-answer-3
-enum-known-answer-3 c = search needs
-
-number-requires : tie.Need-number-requires
-number-requires c κs = search needs
-
 returns : tie.Need-returns
 returns c = simp (c .before .answer .given .1, c .before .before .before .no-record .ensures)
 
@@ -28,14 +13,4 @@ returns-3 : tie.Need-returns-3
 returns-3 c = simp (c .before .before .answer3 .given .1, c .before .before .before .before .no-record .ensures, c .number .ensures)
 
 pub pushed-of-spec : {M : Type 1} → statement M
-pushed-of-spec =
-    tie.close
-    (tie.spec
-    no-record-requires
-    enum-known-answer
-    enum-known-answer-2
-    enum-known-answer-3
-    number-requires
-    returns
-    returns-2
-    returns-3)
+pushed-of-spec = tie.close (tie.spec (λ c κs. search needs) (λ c. search needs) (λ c. search needs) (λ c. search needs) (λ c κs. search needs) returns returns-2 returns-3)
