@@ -32,7 +32,8 @@ module _ (s answers : List ℕ) (i at : ℕ) {t : ℕ} (read : t ≡ typeAt s at
       (ap (λ (a : Acceptance). a .buffer) q)
       (ap (λ (a : Acceptance). wellFormed (a .buffer)) e ∙ accept-kept b n (take m (drop (at + 20) s)) small well)
 
-  pub entered : (w : SlidingWindow) (cells : List ℕ) {u v : SlidingWindow} {after : List ℕ} {said : Said Unit} {base count r : ℕ} → t ≡ 4 → base ≡ packetNumberAt s at → count ≡ fieldAt s at
+  pub entered : (w : SlidingWindow) (cells : List ℕ) {u v : SlidingWindow} {after : List ℕ} {said : Said Unit} {base count r : ℕ}
+      → t ≡ 4 → base ≡ packetNumberAt s at → count ≡ fieldAt s at
       → _≡_ {A = Outcome Unit} (said, v, after) (insertRange w cells base count) → r ≡ refusalIn said → u ≡ v → WellAcks (acksOf w cells)
       → Leaves WellAcks (takes 4 enters i (packetAt s (at, 0)) (progress (acksOf w cells) answers)) (progress (acksOf u after) (set answers i r))
   entered w cells {u} {v} {after} {said} {base} {count} kind number field e answer same well =

@@ -6,16 +6,16 @@ use mathlib.Core.Bool.{Bool, true, false, true≢false, cond}
 use mathlib.Core.Logic.{inl, inr}
 use mathlib.Core.List.{List, [], _∷_}
 use native.Mathlib.Omega.{arith}
-use lib.ListN.{getD, set, length}
-use lib.Dec.{ltb, eqb}
-use Rattle.refusal.specs.Said.{Said, refuses, refusalIn}
+use lib.ListN.{getD, set}
+use lib.Dec.{eqb}
+use Rattle.refusal.specs.Said.{Said, refusalIn}
 use Rattle.refusal.proofs.Checks.{Failed}
 use Rattle.lists.specs.Numbers.{largest}
 use Rattle.lists.proofs.Bytes.{Bytes}
 use Rattle.lists.proofs.Table.{Every}
 use Rattle.header.specs.Types.{typeNumber}
 use Rattle.packet.specs.Packet.{Packet}
-use Rattle.packet.specs.Datagram.{cellsIn, cellsWritten, parsesInto, packetAt}
+use Rattle.packet.specs.Datagram.{cellsWritten, parsesInto, packetAt}
 use Rattle.packet.proofs.Index.{number-fits, every-listed}
 use Rattle.ordered_bytes.specs.Receiver.{acceptChecks}
 use Rattle.ordered_bytes.specs.Buffer.{Buffer, view}
@@ -27,7 +27,8 @@ use Rattle.window.specs.Window.{Outcome, insertRange}
 use Rattle.window.specs.Window as window
 use Rattle.window.specs.declared.SlidingWindow.{SlidingWindow}
 use Rattle.window.proofs.Calls as calls
-use Rattle.receive.specs.Datagram.{Progress, Reception, progress, acksOf, accepts, enters, takes, takesAll, takesListed, takesDatagram, receiving, receivingAcks, WellBuffer, WellAcks}
+use Rattle.receive.specs.Datagram.{Progress, progress, acksOf, accepts, enters, takes, takesAll, takesDatagram, receiving, receivingAcks, WellBuffer, WellAcks}
+use Rattle.receive.proofs.Whole.{whole-ways}
 
 -- no number of the list is 12
 abbrev pub None12 : List ℕ → Type 0
@@ -60,18 +61,12 @@ module _ {S : Type 0} (type : ℕ) (call : S → Packet → Said Unit × S) (s :
   all-fine [] i d each f = f
   all-fine (p ∷ ps) i d each f = all-fine ps (suc i) (takes type call i p d) (each .1) (takes-fine i p d (each .0) f)
 
-  datagram-fine : {well : Bool} (x : S) (index answers : List ℕ) → well ≡ true → Good x → None12 answers →
+  datagram-fine : (well : Bool) (x : S) (index answers : List ℕ) → Good x → None12 answers →
       let e = takesDatagram well type call x s index answers in
       Good (e .state) × None12 (e .answers)
-  datagram-fine x index answers h good none = rw h (by (ltb (length answers) (cellsIn index)))
-    where
-      by : (t : Bool) →
-          let taken = takesListed type call s (parsesInto s index .1) (cellsWritten s index) (progress x answers) in
-          let short : Reception S = record { said = refuses 10; cells = 0; index = index; answers = answers; state = x } in
-          let whole : Reception S = record { said = parsesInto s index .0; cells = cellsWritten s index; index = parsesInto s index .1; answers = taken .answers; state = taken .state } in
-          Good (cond t short whole .state) × None12 (cond t short whole .answers)
-      by true = (good, none)
-      by false = all-fine _ 0 (progress x answers) (every-listed s Fits fits (parsesInto s index .1) (cellsWritten s index) 0) (good, none)
+  datagram-fine well x index answers good none =
+      let each = every-listed s Fits fits (parsesInto s index .1) (cellsWritten s index) 0 in
+      whole-ways type call x s index answers well (λ e. Good (e .state) × None12 (e .answers)) (λ n. (good, none)) (all-fine _ 0 (progress x answers) each (good, none))
 
 -- ---- accepting
 
@@ -100,7 +95,7 @@ receive-fine b s index answers bytes well none =
     datagram-fine 3 accepts s WellBuffer (λ p. p .header .«packet_number» ≤ largest) (number-fits s bytes)
     (λ x p small h. accept-kept x (p .header .«packet_number») (p .payload) small h)
     (λ x p h. accept-never x (p .header .«packet_number») (p .payload) h)
-    b index answers well well none
+    (buffer.wellFormed b) b index answers well none
 
 -- ---- entering acks
 
@@ -121,4 +116,4 @@ receive-acks-fine w cells s index answers well none =
     datagram-fine 4 enters s WellAcks (λ p. Unit) (λ c. tt)
     (λ x p u h. calls.range-law (x .window) (x .cells) h (p .header .«packet_number») (p .header .«type_specific_payload») .1)
     (λ x p h. range-never (x .window) (x .cells) (p .header .«packet_number») (p .header .«type_specific_payload») h)
-    (acksOf w cells) index answers well well none
+    (window.wellFormed w cells) (acksOf w cells) index answers well none

@@ -72,15 +72,25 @@ pub record Reception (S : Type 0) : Type 0 where
   pub answers : List ℕ
   pub state : S
 
--- 12 where the state is not well formed; 10 where the answers have fewer places than the index has cells; then `from_bytes_into`'s own,
--- at which "the packets before the refusal" are listed, and taken all the same
-abbrev pub takesDatagram : {S : Type 0} → Bool → ℕ → (S → Packet → Said Unit × S) → S → List ℕ → List ℕ → List ℕ → Reception S
-takesDatagram wellFormed type call state s index answers =
+-- a refusal that changes nothing
+abbrev pub untouched : {S : Type 0} → ℕ → S → List ℕ → List ℕ → Reception S
+untouched n state index answers = record { said = refuses n; cells = 0; index = index; answers = answers; state = state }
+
+-- `from_bytes_into`, and the calls: where it refuses, "the packets before the refusal" are listed, and taken all the same
+abbrev pub takesParsed : {S : Type 0} → ℕ → (S → Packet → Said Unit × S) → S → List ℕ → List ℕ → List ℕ → Reception S
+takesParsed type call state s index answers =
     let parsed = parsesInto s index in
     let taken = takesListed type call s (parsed .1) (cellsWritten s index) (progress state answers) in
-    checks ((not wellFormed, 12) ∷ (ltb (length answers) (cellsIn index), 10) ∷ [])
-    (λ n. record { said = refuses n; cells = 0; index = index; answers = answers; state = state })
-    (record { said = parsed .0; cells = cellsWritten s index; index = parsed .1; answers = taken .answers; state = taken .state })
+    record { said = parsed .0; cells = cellsWritten s index; index = parsed .1; answers = taken .answers; state = taken .state }
+
+-- 12 where the state is not well formed; 10 where the answers have fewer places than the index has cells
+abbrev pub datagramChecks : Bool → List ℕ → List ℕ → List (Bool × ℕ)
+datagramChecks wellFormed index answers = (not wellFormed, 12) ∷ (ltb (length answers) (cellsIn index), 10) ∷ []
+
+-- .. then `from_bytes_into`'s own
+abbrev pub takesDatagram : {S : Type 0} → Bool → ℕ → (S → Packet → Said Unit × S) → S → List ℕ → List ℕ → List ℕ → Reception S
+takesDatagram wellFormed type call state s index answers =
+    checks (datagramChecks wellFormed index answers) (λ n. untouched n state index answers) (takesParsed type call state s index answers)
 
 -- type 3: the data packets
 unfoldable pub receiving : Buffer → List ℕ → List ℕ → List ℕ → Reception Buffer

@@ -1,13 +1,13 @@
 -- `receive::acks::enter_all` meets its contract. The invariant: what is left to do, done on the present state, is the whole.
 -- Assumes nothing.
-use Prim.Native.Nat.{_+_, _-_, _*_, _≤_, zero-le}
+use Prim.Native.Nat.{ℕ, _+_, _-_, _*_, _≤_, zero-le}
 use mathlib.Core.Path.{_≡_, refl, sym, ap, _∙_}
 use native.Mathlib.Omega.{arith}
 use lib.ListN.{length}
 use denote.Ref.{now}
 use borrow.Author.Needs.{needs}
 use Rattle.packet.proofs.Index.{header-within}
-use Rattle.receive.specs.Datagram.{acksOf, enters, progress, takesListed, WellAcks}
+use Rattle.receive.specs.Datagram.{Acks, Progress, acksOf, enters, progress, takesListed, WellAcks}
 use Rattle.receive.proofs.Takes.{rest, rest-begin, rest-end}
 use Rattle.receive.proofs.Steps.{acks-on}
 use Rattle.receive.proofs.acks.enter_all.Statement.{statement}
@@ -24,10 +24,15 @@ Inv-loop cells₀ datagram index n answers₀ i₀ entered₀ cells answers i en
 abbrev μ-loop : tie.MeasureT-loop
 μ-loop cells₀ datagram index n answers₀ i₀ entered₀ cells answers i entered = n - i
 
+abbrev start : tie.After-slice-known2 Inv-loop μ-loop → tie.Start Inv-loop μ-loop
+start c = c .before .before .before .before
+
+-- what is left to do from the i-th packet on
+abbrev left : tie.Start Inv-loop μ-loop → ℕ → Progress Acks → Progress Acks
+left k = rest 4 enters (now (k .args .datagram)) (now (k .args .index)) (k .args .n)
+
 loop-holds : tie.Need-loop-holds Inv-loop μ-loop
-loop-holds c =
-    let start = c .before .before .before .before in
-    (zero-le, start .pre .0, refl, refl, rest-begin 4 enters (now (start .args .datagram)) (now (start .args .index)) (start .args .n) _)
+loop-holds c = let k = start c in (zero-le, k .pre .0, refl, refl, rest-begin 4 enters (now (k .args .datagram)) (now (k .args .index)) (k .args .n) _)
 
 mul-cell : tie.Need-mul-cell Inv-loop μ-loop
 mul-cell c = search needs
@@ -43,9 +48,10 @@ cast-at c = omega (arith, c .shared-slice-known3 .given (2 * c .before .before .
 
 enter-listed-requires : tie.Need-enter-listed-requires Inv-loop μ-loop
 enter-listed-requires c κs =
-    let turn = c .before .before .before in
-    let start = turn .before .before .before .before .before .before in
-    (turn .before .loop .inv .1, header-within (start .pre .1) (turn .before .loop .i) (turn .loop-test .taken), omega (arith, turn .loop-test .taken, start .pre .2))
+    let test = c .before .before .before in
+    let at = test .before in
+    let k = start (at .before) in
+    (at .loop .inv .1, header-within (k .pre .1) (at .loop .i) (test .loop-test .taken), omega (arith, test .loop-test .taken, k .pre .2))
 
 add-i : tie.Need-add-i Inv-loop μ-loop
 add-i c = search needs
@@ -56,16 +62,15 @@ loop-less c = search needs
 loop-again : tie.Need-loop-again Inv-loop μ-loop
 loop-again c =
     let made = c .before .before .before .before in
-    let turn = made .before .before .before .before in
-    let start = turn .before .before .before .before .before .before in
-    let k = turn .before .loop in (
-      omega (arith, turn .loop-test .taken),
+    let test = made .before .before .before .before in
+    let at = test .before in
+    let k = start (at .before) in
+    let on = acks-on (now (k .args .datagram)) (now (k .args .index)) (k .args .n) (at .loop .i) _ (test .loop-test .taken) (k .pre .1 .cells) in (
+      omega (arith, test .loop-test .taken),
       made .enter-listed .ensures .good,
       search needs,
       search needs,
-      ap (rest 4 enters (now (start .args .datagram)) (now (start .args .index)) (start .args .n) (k .i + 1)) (made .enter-listed .ensures .same)
-          ∙ sym (acks-on (now (start .args .datagram)) (now (start .args .index)) (start .args .n) (k .i) _ (turn .loop-test .taken) (start .pre .1 .cells))
-          ∙ k .inv .4,
+      ap (left k (at .loop .i + 1)) (made .enter-listed .ensures .same) ∙ sym on ∙ at .loop .inv .4,
     )
 
 same-length : tie.Need-same-length Inv-loop μ-loop
@@ -76,8 +81,8 @@ same-length-2 c = search needs
 
 returns : tie.Need-returns Inv-loop μ-loop
 returns c =
-    let start = c .before .before .before .before .before .before in
-    sym (rest-end 4 enters (now (start .args .datagram)) (now (start .args .index)) (start .args .n) (c .before .loop .i) _ (omega (arith, c .loop-test .left))) ∙ c .before .loop .inv .4
+    let k = start (c .before .before) in
+    sym (rest-end 4 enters (now (k .args .datagram)) (now (k .args .index)) (k .args .n) (c .before .loop .i) _ (omega (arith, c .loop-test .left))) ∙ c .before .loop .inv .4
 
 pub enter-all-spec : {M : Type 1} → statement M
 enter-all-spec =

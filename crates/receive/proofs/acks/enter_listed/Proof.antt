@@ -46,8 +46,8 @@ returns-2 c =
     let field = inserted .before .before in
     let read = field .before .before .before in
     let start = read .before .before .before .before in
-    entered (now (start .args .datagram)) (now (start .args .answers)) (start .args .i) (start .args .at) (read .type-at-unchecked .ensures) (start .args .w) (now (start .args .cells)) (field .before .before .if1 .left)
-    (field .before .number-at-unchecked .ensures) (field .field-at-unchecked .ensures) (inserted .insert-range-unchecked .ensures)
+    entered (now (start .args .datagram)) (now (start .args .answers)) (start .args .i) (start .args .at) (read .type-at-unchecked .ensures) (start .args .w) (now (start .args .cells))
+    (field .before .before .if1 .left) (field .before .number-at-unchecked .ensures) (field .field-at-unchecked .ensures) (inserted .insert-range-unchecked .ensures)
     (made .entered-by .ensures .0) (made .entered-by .ensures .1) (start .pre .0)
 
 pub enter-listed-spec : {M : Type 1} → statement M

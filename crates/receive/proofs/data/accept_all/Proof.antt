@@ -1,13 +1,13 @@
 -- `receive::data::accept_all` meets its contract. The invariant: what is left to do, done on the present state, is the whole.
 -- Assumes nothing.
-use Prim.Native.Nat.{_+_, _-_, _*_, _≤_, zero-le}
+use Prim.Native.Nat.{ℕ, _+_, _-_, _*_, _≤_, zero-le}
 use mathlib.Core.Path.{_≡_, refl, sym, ap, _∙_}
 use native.Mathlib.Omega.{arith}
 use lib.ListN.{length}
 use denote.Ref.{now}
 use borrow.Author.Needs.{needs}
-use Rattle.ordered_bytes.specs.Buffer.{bufferOf}
-use Rattle.receive.specs.Datagram.{accepts, progress, takesListed, WellBuffer}
+use Rattle.ordered_bytes.specs.Buffer.{Buffer, bufferOf}
+use Rattle.receive.specs.Datagram.{Progress, accepts, progress, takesListed, WellBuffer}
 use Rattle.receive.proofs.Takes.{rest, rest-begin, rest-on, rest-end}
 use Rattle.receive.proofs.data.accept_all.Statement.{statement}
 use Rattle.receive.proofs.data.accept_all.Tie as tie
@@ -26,10 +26,21 @@ Inv-loop o datagram index n answers₀ marks₀ lengths₀ store₀ i₀ answers
 abbrev μ-loop : tie.MeasureT-loop
 μ-loop o datagram index n answers₀ marks₀ lengths₀ store₀ i₀ answers marks lengths store i = n - i
 
+abbrev start : tie.After-slice-known4 Inv-loop μ-loop → tie.Start Inv-loop μ-loop
+start c = let known = c .before .before .before in known .before .before .before
+
+-- what is left to do from the i-th packet on
+abbrev left : tie.Start Inv-loop μ-loop → ℕ → Progress Buffer → Progress Buffer
+left k = rest 3 accepts (now (k .args .datagram)) (now (k .args .index)) (k .args .n)
+
+-- the turn in which a packet is taken
+abbrev turn : tie.After-accept-listed-arg4 Inv-loop μ-loop → tie.In-loop Inv-loop μ-loop
+turn c = let cell = c .before .before .before .before in cell .before .before
+
 loop-holds : tie.Need-loop-holds Inv-loop μ-loop
 loop-holds c =
-    let start = c .before .before .before .before .before .before in
-    (zero-le, start .pre .0, refl, refl, refl, refl, rest-begin 3 accepts (now (start .args .datagram)) (now (start .args .index)) (start .args .n) _)
+    let k = start c in
+    (zero-le, k .pre .0, refl, refl, refl, refl, rest-begin 3 accepts (now (k .args .datagram)) (now (k .args .index)) (k .args .n) _)
 
 mul-cell : tie.Need-mul-cell Inv-loop μ-loop
 mul-cell c = search needs
@@ -57,9 +68,9 @@ cast-len c = omega (arith, c .shared-slice-known4 .given (2 * c .before .before 
 
 accept-listed-requires : tie.Need-accept-listed-requires Inv-loop μ-loop
 accept-listed-requires c κs =
-    let turn = c .before .before .before .before .before .before in
-    let start = turn .before .before .before .before .before .before .before .before in
-    (turn .before .loop .inv .1, start .pre .1 .within (turn .before .loop .i) (turn .loop-test .taken), omega (arith, turn .loop-test .taken, start .pre .2))
+    let at = turn c .before in
+    let k = start (at .before) in
+    (at .loop .inv .1, k .pre .1 .within (at .loop .i) (turn c .loop-test .taken), omega (arith, turn c .loop-test .taken, k .pre .2))
 
 add-i : tie.Need-add-i Inv-loop μ-loop
 add-i c = search needs
@@ -69,19 +80,19 @@ loop-less c = search needs
 
 loop-again : tie.Need-loop-again Inv-loop μ-loop
 loop-again c =
-    let made = c .before .before .before .before .before .before .before .before in
-    let turn = made .before .before .before .before .before .before .before in
-    let start = turn .before .before .before .before .before .before .before .before in
-    let k = turn .before .loop in (
-      omega (arith, turn .loop-test .taken),
+    let known = c .before .before .before .before in
+    let made = known .before .before .before .before in
+    let test = turn (made .before) in
+    let at = test .before in
+    let k = start (at .before) in
+    let on = rest-on 3 accepts (now (k .args .datagram)) (now (k .args .index)) (k .args .n) (at .loop .i) _ (test .loop-test .taken) (k .pre .1 .cells) in (
+      omega (arith, test .loop-test .taken),
       made .accept-listed .ensures .good,
       search needs,
       search needs,
       search needs,
       search needs,
-      ap (rest 3 accepts (now (start .args .datagram)) (now (start .args .index)) (start .args .n) (k .i + 1)) (made .accept-listed .ensures .same)
-          ∙ sym (rest-on 3 accepts (now (start .args .datagram)) (now (start .args .index)) (start .args .n) (k .i) _ (turn .loop-test .taken) (start .pre .1 .cells))
-          ∙ k .inv .6,
+      ap (left k (at .loop .i + 1)) (made .accept-listed .ensures .same) ∙ sym on ∙ at .loop .inv .6,
     )
 
 same-length : tie.Need-same-length Inv-loop μ-loop
@@ -98,8 +109,8 @@ same-length-4 c = search needs
 
 returns : tie.Need-returns Inv-loop μ-loop
 returns c =
-    let start = c .before .before .before .before .before .before .before .before in
-    sym (rest-end 3 accepts (now (start .args .datagram)) (now (start .args .index)) (start .args .n) (c .before .loop .i) _ (omega (arith, c .loop-test .left))) ∙ c .before .loop .inv .6
+    let k = start (c .before .before) in
+    sym (rest-end 3 accepts (now (k .args .datagram)) (now (k .args .index)) (k .args .n) (c .before .loop .i) _ (omega (arith, c .loop-test .left))) ∙ c .before .loop .inv .6
 
 pub accept-all-spec : {M : Type 1} → statement M
 accept-all-spec =

@@ -12,7 +12,7 @@ use Rattle.receive.proofs.data.accept_listed.Statement.{statement}
 use Rattle.receive.proofs.data.accept_listed.Tie as tie
 
 abbrev start : tie.After-type-at-unchecked → tie.Start
-start c = c .before .before .before .before .before .before
+start c = let known = c .before .before .before in known .before .before .before
 
 -- the buffer as it came
 abbrev entry : tie.Start → Buffer
@@ -70,11 +70,13 @@ returns-2 : tie.Need-returns-2
 returns-2 c =
     let lent = c .before .before .before .before in
     let made = lent .before .before .before in
-    let number = made .before .before .before .before .before in
+    let lent = made .before .before .before .before in
+    let number = lent .before in
     let read = number .before .before in
     let k = start read in
     let length : k .args .at + 20 + k .args .len - (k .args .at + 20) ≡ k .args .len = omega arith in
-    accepted (now (k .args .datagram)) (now (k .args .answers)) (k .args .i) (k .args .at) (read .type-at-unchecked .ensures) (entry k) (k .args .len) _ (number .before .if1 .left) (number .number-at-unchecked .ensures) length
+    accepted (now (k .args .datagram)) (now (k .args .answers)) (k .args .i) (k .args .at) (read .type-at-unchecked .ensures) (entry k) (k .args .len) _
+    (number .before .if1 .left) (number .number-at-unchecked .ensures) length
     (omega (arith, number .number-at-unchecked .ok)) (made .buffer-in-packet-unchecked .ensures) (c .refusal-in .ensures) (k .pre .0)
 
 pub accept-listed-spec : {M : Type 1} → statement M
