@@ -2,7 +2,7 @@
 -- Assumes nothing.
 use Prim.Native.Nat.{ℕ, _+_, _≤_, _<_}
 use mathlib.Core.Path.{_≡_}
-use mathlib.Core.Bool.{true, _&&_, and-assoc}
+use mathlib.Core.Bool.{Bool, true, _&&_, and-assoc}
 use mathlib.Core.List.{List, [], _∷_}
 use native.Mathlib.Numerals.{add-one}
 use native.Mathlib.Omega.{arith}
@@ -29,16 +29,16 @@ rising-end cells count i l h k =
     (λ m. let z : i + 1 ≡ count = omega arith in rw (slice-cons i count cells 0 m k, ← add-one i, z, slice-empty count cells))
 
 -- four pairs
-pub rising-five : (cells : List ℕ) (count i : ℕ) → i + 4 < count → count ≤ length cells
-    → rising (drop i (take count cells)) ≡ (fiveRise cells i && rising (drop (i + 4) (take count cells)))
-rising-five cells count i h k =
+pub rising-five : (cells : List ℕ) (count i : ℕ) (five : Bool) → i + 4 < count → count ≤ length cells → five ≡ fiveRise cells i
+    → rising (drop i (take count cells)) ≡ (five && rising (drop (i + 4) (take count cells)))
+rising-five cells count i five h k q =
     let e₂ : i + 1 + 1 ≡ i + 2 = omega arith in
     let e₃ : i + 2 + 1 ≡ i + 3 = omega arith in
     let e₄ : i + 3 + 1 ≡ i + 4 = omega arith in
     let t₂ = rw e₂ at (rising-at cells count (i + 1) (omega arith) k) in
     let t₃ = rw e₃ at (rising-at cells count (i + 2) (omega arith) k) in
     let t₄ = rw e₄ at (rising-at cells count (i + 3) (omega arith) k) in
-    rw (rising-at cells count i (omega arith) k, t₂, t₃, t₄) (simp and-assoc)
+    rw (rising-at cells count i (omega arith) k, t₂, t₃, t₄, q) (simp and-assoc)
 
 -- the first is not above the last
 pub first-last : (x : ℕ) (xs : List ℕ) → rising (x ∷ xs) ≡ true → x ≤ getD (x ∷ xs) (length xs) 0

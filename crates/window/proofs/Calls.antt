@@ -11,14 +11,15 @@ use lib.ListN.{length}
 use lib.Dec.{ltb, leb, eqb}
 use borrow.Author.Tests.{ltb-true, ltb-false, leb-false, le-ltb, lt-leb, ne-eqb, eqb-true, eqb-false, not-true}
 use Rattle.refusal.specs.Said.{Said, answers, refuses, refusalIn, checks}
-use Rattle.refusal.proofs.Checks.{Passed, Failed, Checked, passes, fails, checked}
+use Rattle.refusal.proofs.Checks.{Failed, Checked, passes, fails, checked}
 use Rattle.lists.specs.Numbers.{largest}
 use Rattle.lists.proofs.Tests.{both}
 use Rattle.window.specs.declared.SlidingWindow.{SlidingWindow}
-use Rattle.window.specs.Window.{windowSize, Outcome, refused, expected, window, held, tooFew, member, wellFormed, storedCells, grown, numbers, beforeHeld, storedBefore, storeRun}
-use Rattle.window.specs.Window.{insertChecks, insertPacketNumber, rangeChecks, insertRange, runLength, consumedCells, advanced, consume}
+use Rattle.window.specs.Window.{windowSize, Outcome, refused, expected, window, held, below, beyond, exhausted, tooFew, member, wellFormed}
+use Rattle.window.specs.Window.{storedCells, grown, numbers, beforeHeld, storedBefore, storeRun, insertPacketNumber, rangeChecks, insertRange}
+use Rattle.window.specs.Window.{runLength, consumedCells, advanced, consumedRun, consume}
 use Rattle.window.proofs.Rises.{bound, WellFormed, well-formed, well-formed-is}
-use Rattle.window.proofs.Loops.{stored-none}
+use Rattle.window.proofs.Loops.{stored-none, storeOne, one-is}
 use Rattle.window.proofs.Members.{among, member-stored, member-numbers, before, run-held, run-ends, run-dropped}
 use Rattle.window.proofs.Kept.{held-stored, held-consumed, length-stored-cells, length-consumed-cells, stored-keeps, consumed-keeps}
 
@@ -80,41 +81,7 @@ module _ (w : SlidingWindow) (cells : List ℕ) (h : wellFormed w cells ≡ true
         members = λ n. ap (member n) (held-stored w cells wf b k) ∙ member-stored n b k (held w cells);
       }
 
-  -- `insert_packet_number`
-  one-free : (n : ℕ) → member n (held w cells) ≡ false → beforeHeld n 1 (held w cells) ≡ 1
-  unfolding beforeHeld
-  one-free n q = rw q
-
-  abbrev one : ℕ → Outcome Unit
-  one n = (answers tt, grown w 1, storedCells w cells n 1)
-
-  insert-passed : (n : ℕ) → Passed (insertChecks w cells n) →
-      let o = one n in
-      Insertion w cells n o × Keeps o
-  insert-passed n p =
-      let low = ltb-false n (expected w) (p .0) in
-      let near = leb-false windowSize (n - expected w) (p .1 .0) in
-      let small = leb-false largest n (p .1 .1 .0) in
-      let new = p .1 .1 .1 .0 in
-      let room = ltb-false (length cells) (w .count + 1) (p .1 .1 .1 .1 .0) in
-      let q = one-free n new in
-      let keeps = stored-keeps w cells wf n 1 low (rw q (omega arith)) (rw q room) in
-      (stores refl new (adds (answers tt) n 1 low room), well-formed-is (grown w 1) (storedCells w cells n 1) (rw q at keeps))
-
-  insert-failed : (n r : ℕ) → Failed (insertChecks w cells n) r → Insertion w cells n (refused w cells r)
-  insert-failed n r f = refusal r refl (λ q. not-refused 12 (insertChecks w cells n) refl (rw q at f))
-
-  pub insert-law : (n : ℕ) → let o = insertPacketNumber w cells n in Insertion w cells n o × Keeps o
-  unfolding insertPacketNumber
-  insert-law n = rw h (by (checked (refused w cells) (one n) (insertChecks w cells n)))
-    where
-      by : Checked (insertChecks w cells n) (refused w cells) (one n) →
-          let o = checks (insertChecks w cells n) (refused w cells) (one n) in
-          Insertion w cells n o × Keeps o
-      by (passes p q) = rw q (insert-passed n p)
-      by (fails r f q) = rw q (insert-failed n r f, h)
-
-  -- `insert_range`
+  -- a run of numbers that the window may hold
   range-stored : (base count : ℕ) →
       let k = beforeHeld base count (held w cells) in
       expected w ≤ base → w .count + k ≤ length cells → (t : Bool) → ltb k count ≡ t
@@ -145,6 +112,32 @@ module _ (w : SlidingWindow) (cells : List ℕ) (h : wellFormed w cells ≡ true
           let keeps = stored-keeps w cells wf base count low (omega arith) room in
           (range-stored base count low room (ltb k count) refl, well-formed-is (grown w k) (storedCells w cells base k) keeps)
 
+  -- `insert_packet_number`: a run of one
+  single : (n : ℕ) (o : Outcome Unit) → o ≡ storeRun w cells n 1 → RangeInsertion w cells n 1 o → Insertion w cells n o
+  single n o e (stores q free a) = let z : n + 0 ≡ n = omega arith in stores q (rw z at (free 0 (omega arith))) a
+  single n o e (stops k u q free m a) =
+      let z : n + k ≡ n = omega arith in
+      refusal 7 (e ∙ one-is w cells n (wf .fits) ∙ rw (rw z at m)) (λ p. omega arith)
+  single n o e (refusal r q not-7 not-12) = refusal r q not-12
+
+  abbrev tests : ℕ → List (Bool × ℕ)
+  tests n = (below w n, 5) ∷ (beyond w n, 6) ∷ (exhausted n, 9) ∷ []
+
+  pub insert-law : (n : ℕ) → let o = insertPacketNumber w cells n in Insertion w cells n o × Keeps o
+  unfolding insertPacketNumber
+  insert-law n = rw h (by (checked (refused w cells) (storeOne w cells n) (tests n)))
+    where
+      by : Checked (tests n) (refused w cells) (storeOne w cells n) →
+          let o = checks (tests n) (refused w cells) (storeOne w cells n) in
+          Insertion w cells n o × Keeps o
+      by (passes p q) =
+          let near = leb-false windowSize (n - expected w) (p .1 .0) in
+          let small = leb-false largest n (p .1 .1 .0) in
+          let law = run-law n 1 (ltb-false n (expected w) (p .0)) (omega arith) in
+          rw (q, ← one-is w cells n (wf .fits)) (single n (storeRun w cells n 1) refl (law .0), law .1)
+      by (fails r f q) = rw q (refusal r refl (λ e. not-refused 12 (tests n) refl (rw e at f)), h)
+
+  -- `insert_range`
   pub range-law : (base count : ℕ) → let o = insertRange w cells base count in RangeInsertion w cells base count o × Keeps o
   unfolding insertRange member numbers
   range-law base count = rw h (by (eqb count 0) refl)
@@ -192,7 +185,7 @@ module _ (w : SlidingWindow) (cells : List ℕ) (h : wellFormed w cells ≡ true
       k = runLength e (held w cells)
 
       by : (t : Bool) → eqb k 0 ≡ t →
-          let o : Outcome (Option (ℕ × ℕ)) = cond t (answers none, w, cells) (answers (some (e + k - 1, k)), advanced w k, consumedCells w cells k) in
+          let o : Outcome (Option (ℕ × ℕ)) = cond t (answers none, w, cells) (consumedRun w cells k) in
           Consumption w cells o × Keeps o
       by true q =
           let z : e + k ≡ e = let y = eqb-true k 0 q in omega arith in
@@ -227,10 +220,7 @@ module _ (w : SlidingWindow) (cells : List ℕ) (h : wellFormed w cells ≡ true
   unfolding consume
   consume-fine = rw h (by (eqb (runLength (expected w) (held w cells)) 0))
     where
-      by : (t : Bool) →
-          let k = runLength (expected w) (held w cells) in
-          let o : Outcome (Option (ℕ × ℕ)) = cond t (answers none, w, cells) (answers (some (expected w + k - 1, k)), advanced w k, consumedCells w cells k) in
-          Fine cells o
+      by : (t : Bool) → Fine {A = Option (ℕ × ℕ)} cells (cond t (answers none, w, cells) (consumedRun w cells (runLength (expected w) (held w cells))))
       by true = record { never = λ e. omega arith; long = refl }
       by false = record { never = λ e. omega arith; long = length-consumed-cells w cells wf }
 

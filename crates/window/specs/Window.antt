@@ -151,9 +151,11 @@ abbrev pub advanced : SlidingWindow → ℕ → SlidingWindow
 advanced w k = window (expected w + k) (w .count - k)
 
 -- .. with an unbroken run of k
+abbrev pub consumedRun : SlidingWindow → List ℕ → ℕ → Outcome (Option (ℕ × ℕ))
+consumedRun w cells k = (answers (some (expected w + k - 1, k)), advanced w k, consumedCells w cells k)
+
 abbrev pub consumeRun : SlidingWindow → List ℕ → ℕ → Outcome (Option (ℕ × ℕ))
-consumeRun w cells k =
-    cond (eqb k 0) (answers none, w, cells) (answers (some (expected w + k - 1, k)), advanced w k, consumedCells w cells k)
+consumeRun w cells k = cond (eqb k 0) (answers none, w, cells) (consumedRun w cells k)
 
 unfoldable pub consume : SlidingWindow → List ℕ → Outcome (Option (ℕ × ℕ))
 consume w cells = unlessMalformed w cells (consumeRun w cells (runLength (expected w) (held w cells)))

@@ -3,12 +3,13 @@
 // Proved: each call says what the definition says, and leaves the window and the cells as it does, for every window and every content of the cells.
 use refusal::Refusal;
 ghost use mathlib.Core.Path.{_≡_};
-ghost use mathlib.Core.Bool.{true};
+ghost use mathlib.Core.Bool.{true, _&&_};
 ghost use Prim.Native.Nat.{_+_, _-_, _≤_, _<_};
 ghost use lib.ListN.{length, take, drop, replicate};
 ghost use lib.Seq.{paste};
+ghost use lib.Dec.{ltb};
 ghost use Rattle.lists.specs.Numbers.{largest};
-ghost use Rattle.lists.specs.Rising.{rising, fiveRise};
+ghost use Rattle.lists.specs.Rising.{rising};
 ghost use Rattle.window.specs.Window.{expected, window, held, holdable, wellFormed, place, numbers, beforeHeld, runLength};
 ghost use Rattle.window.specs.Window.{storeRun, insertPacketNumber, insertRange, consume};
 ghost use Rattle.window.specs.Window.{insertedSays, windowAfterInsert, rangeInsertedSays, windowAfterRange, consumedSays, windowAfterConsume};
@@ -101,7 +102,13 @@ fn is_rising(cells: &[u64], count: usize) -> bool
 {
     let mut i = 0;
     while count - i > 4 {
-        if !five_rise(cells, i) {
+        if !five_rise(
+            cells[i],
+            cells[i + 1],
+            cells[i + 2],
+            cells[i + 3],
+            cells[i + 4],
+        ) {
             return false;
         }
         i += 4;
@@ -109,14 +116,10 @@ fn is_rising(cells: &[u64], count: usize) -> bool
     is_rising_from(cells, count, i)
 }
 
-fn five_rise(cells: &[u64], i: usize) -> bool
-    requires { ⌜ i + 4 < length (now cells) ⌝ }
-    ensures { λ r. ⌜ r ≡ fiveRise (now (cells .entry)) i ⌝ }
+fn five_rise(a: u64, b: u64, c: u64, d: u64, e: u64) -> bool
+    ensures { λ r. ⌜ r ≡ (ltb a b && ltb b c && ltb c d && ltb d e) ⌝ }
 {
-    let b = cells[i + 1];
-    let c = cells[i + 2];
-    let d = cells[i + 3];
-    (cells[i] < b) & (b < c) & (c < d) & (d < cells[i + 4])
+    (a < b) & (b < c) & (c < d) & (d < e)
 }
 
 fn is_rising_from(cells: &[u64], count: usize, from: usize) -> bool

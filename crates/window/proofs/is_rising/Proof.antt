@@ -1,6 +1,7 @@
 -- `is_rising`: all numbers rise if those from i on do.
 -- Assumes nothing.
-use Prim.Native.Nat.{_-_, _≤_}
+use Prim.Native.Nat.{_+_, _-_, _≤_}
+use mathlib.Core.Bool.{Bool, true, false, _&&_}
 use mathlib.Core.Path.{_≡_, refl, sym, _∙_}
 use native.Mathlib.Omega.{arith}
 use lib.ListN.{take, drop}
@@ -20,21 +21,26 @@ abbrev μ-loop : tie.MeasureT-loop
 loop-holds : tie.Need-loop-holds Inv-loop μ-loop
 loop-holds c = (omega arith, refl)
 
-returns : tie.Need-returns Inv-loop μ-loop
-returns c =
-    let l = c .before .before .before in
+-- past the five reads
+abbrev loop : tie.After-five-rise Inv-loop μ-loop → tie.At-loop Inv-loop μ-loop
+loop c =
+    let reads = c .before .before .before in
+    reads .before .before .before .before
+
+turn : (c : tie.After-five-rise Inv-loop μ-loop) (t : Bool) → c .five-rise .result ≡ t →
+    let l = loop c in
+    let held = take (l .before .before .args .count) (l .before .before .args .cells .now) in
+    rising held ≡ (t && rising (drop (l .loop .i + 4) held))
+turn c t q =
+    let l = loop c in
     let a = l .before .before .args in
-    let five = c .before .five-rise in
-    let turn = rising-five (a .cells .now) (a .count) (l .loop .i) (omega arith) (omega arith) in
-    sym (l .loop .inv .1 ∙ rw (turn, ← five .ensures, not-true (five .result) (c .if1 .taken)))
+    l .loop .inv .1 ∙ rising-five (a .cells .now) (a .count) (l .loop .i) t (omega arith) (omega arith) (sym q ∙ c .five-rise .ensures)
+
+returns : tie.Need-returns Inv-loop μ-loop
+returns c = sym (turn (c .before) false (not-true _ (c .if1 .taken)))
 
 loop-again : tie.Need-loop-again Inv-loop μ-loop
-loop-again c =
-    let l = c .before .before .before in
-    let a = l .before .before .args in
-    let five = c .before .five-rise in
-    let turn = rising-five (a .cells .now) (a .count) (l .loop .i) (omega arith) (omega arith) in
-    (omega arith, l .loop .inv .1 ∙ rw (turn, ← five .ensures, not-false (five .result) (c .if1 .left)))
+loop-again c = (omega arith, turn (c .before) true (not-false _ (c .if1 .left)))
 
 returns-2 : tie.Need-returns-2 Inv-loop μ-loop
 returns-2 c = c .is-rising-from .ensures ∙ sym (c .before .before .loop .inv .1)
@@ -46,6 +52,20 @@ is-rising-spec =
     Inv-loop
     μ-loop
     loop-holds
+    (λ c. search needs)
+    (λ c. search needs)
+    (λ c. search needs)
+    (λ c. search needs)
+    (λ c. search needs)
+    (λ c. search needs)
+    (λ c. search needs)
+    (λ c. search needs)
+    (λ c. search needs)
+    (λ c. search needs)
+    (λ c. search needs)
+    (λ c. search needs)
+    (λ c. search needs)
+    (λ c. search needs)
     (λ c. search needs)
     (λ c κs. search needs)
     returns
