@@ -12,13 +12,13 @@ use lib.Dec.{ltb, leb}
 use borrow.Author.Tests.{lt-ltb, le-leb, lt-leb, leb-true, leb-false}
 use Rattle.refusal.specs.Said.{answers}
 use Rattle.lists.proofs.Paste.{drop-pasted}
-use Rattle.lists.proofs.Bytes.{Bytes, bytes-nil, bytes-cons, bytes-append}
+use Rattle.lists.proofs.Bytes.{Bytes}
 use Rattle.parts.specs.BigEndian.{bytesOf, numberAt}
-use Rattle.parts.proofs.BigEndian.{number-append, number-drop, number-bytes, bytes-number, bytes-of}
+use Rattle.parts.proofs.BigEndian.{number-append, number-drop, number-bytes, bytes-number}
 use Rattle.header.specs.declared.BluefinSecurityFields.{BluefinSecurityFields}
 use Rattle.header.specs.declared.BluefinHeader.{BluefinHeader}
 use Rattle.header.specs.Types.{typeNumber, typeOf}
-use Rattle.header.specs.Header.{securityByte, securityOf, leadingBytes, headerBytes, typeAt, headerAt, deserialisesAt}
+use Rattle.header.specs.Header.{securityByte, securityOf, headerBytes, typeAt, headerAt, deserialisesAt}
 use Rattle.header.proofs.Types.{number-known, type-number, number-type}
 
 -- each field is a value of its type, and version and mask are in the ranges that writing asks for
@@ -44,10 +44,6 @@ module _ (m : ℕ) (small : m ≤ 127) where
   fields true = ap₂ held (le-leb 128 (128 + m) (omega arith)) (omega arith)
   fields false = ap₂ held (lt-leb 128 m (omega arith)) (omega arith)
 
-  below : (e : Bool) → securityByte (held e m) < 256
-  below true = omega arith
-  below false = omega arith
-
 pub read-security : (f : BluefinSecurityFields) → f .«header_protection_mask» ≤ 127 → securityOf (securityByte f) ≡ f
 read-security f h = fields (f .«header_protection_mask») h (f .«header_encrypted»)
 
@@ -57,29 +53,6 @@ write-security b h = by-bit (leb 128 b) refl
     by-bit : (t : Bool) → leb 128 b ≡ t → securityByte (securityOf b) ≡ b
     by-bit true e = let high : 128 ≤ b = leb-true 128 b e in rw e (omega arith)
     by-bit false e = let low : b < 128 = leb-false 128 b e in rw e (omega arith)
-
--- The bytes of a header are bytes.
-
-pub bytes-header : (h : BluefinHeader) → Sized h → Bytes (headerBytes h)
-unfolding headerBytes
-bytes-header h z =
-    let type : typeNumber (h .«type_field») < 7 = number-known (h .«type_field») in
-    let first = h .version * 16 + typeNumber (h .«type_field») in
-    let fits : first < 256 = omega (arith, z .version) in
-    let field = bytesOf 2 (h .«type_specific_payload») in
-    let mask = h .«security_fields» .«header_protection_mask» in
-    let security = securityByte (h .«security_fields») in
-    let source = bytesOf 4 (h .«source_connection_id») in
-    let destination = bytesOf 4 (h .«destination_connection_id») in
-    let leading =
-    bytes-append ((first ∷ []) ++ field) (security ∷ [])
-    (bytes-append (first ∷ []) field (bytes-cons first [] fits bytes-nil) (bytes-of 2 (h .«type_specific_payload»)))
-    (bytes-cons security [] (below mask (z .mask) (h .«security_fields» .«header_encrypted»)) bytes-nil) in
-    bytes-append (leadingBytes h ++ source ++ destination) (bytesOf 8 (h .«packet_number»))
-    (bytes-append (leadingBytes h ++ source) destination
-    (bytes-append (leadingBytes h) source leading (bytes-of 4 (h .«source_connection_id»)))
-    (bytes-of 4 (h .«destination_connection_id»)))
-    (bytes-of 8 (h .«packet_number»))
 
 -- A read sees the 20 bytes from its cursor on, and no others.
 
@@ -163,7 +136,7 @@ module _ (s : List ℕ) (at : ℕ) (bytes : Bytes s) (room : at + 20 ≤ length 
   pub write-read : headerBytes (headerAt s at) ≡ take 20 (drop at s)
   unfolding headerAt headerBytes
   write-read =
-      let type : typeNumber (typeOf (typeAt s at)) ≡ typeAt s at = number-type (typeAt s at) known in
+      let type : typeNumber (typeOf (typeAt s at)) ≡ typeAt s at = omega (arith, number-type (typeAt s at)) in
       let byte : getD s at 0 / 16 * 16 + typeNumber (typeOf (typeAt s at)) ≡ getD s at 0 = omega arith in
       let first : (getD s at 0 / 16 * 16 + typeNumber (typeOf (typeAt s at))) ∷ [] ≡ take 1 (drop at s) =
       ap (λ (x : ℕ). x ∷ []) byte ∙ one at (omega arith) in

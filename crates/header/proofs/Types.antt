@@ -1,10 +1,9 @@
 -- Laws of the packet types: each has a known number, and number and type undo each other.
 -- Assumes nothing.
-use Prim.Native.Nat.{ℕ, zero, suc, _<_}
-use mathlib.Core.Path.{_≡_, refl, sym, _∙_}
+use Prim.Native.Nat.{ℕ, zero, suc, _<_, min}
+use mathlib.Core.Path.{_≡_, refl}
 use native.Mathlib.Omega.{arith}
-use lib.Dec.{lit<, eqb}
-use borrow.Author.Tests.{ne-eqb}
+use lib.Dec.{lit<}
 use Rattle.header.specs.declared.PacketType.{PacketType}
 use Rattle.header.specs.declared.PacketType.the-variants.{UnencryptedClientHello, UnencryptedServerHello, ClientAck, UnencryptedData, Ack, Fin, FinAck}
 use Rattle.header.specs.Types.{typeNumber, typeOf}
@@ -27,14 +26,15 @@ type-number Ack = refl
 type-number Fin = refl
 type-number FinAck = refl
 
-pub number-type : (n : ℕ) → n < 7 → typeNumber (typeOf n) ≡ n
-number-type zero h = refl
-number-type (suc zero) h = refl
-number-type (suc (suc zero)) h = refl
-number-type (suc (suc (suc zero))) h = refl
-number-type (suc (suc (suc (suc zero)))) h = refl
-number-type (suc (suc (suc (suc (suc zero))))) h = refl
-number-type (suc (suc (suc (suc (suc (suc n)))))) h = omega arith
+-- every other number stands for the last type
+pub number-type : (n : ℕ) → typeNumber (typeOf n) ≡ min n 6
+number-type zero = refl
+number-type (suc zero) = refl
+number-type (suc (suc zero)) = refl
+number-type (suc (suc (suc zero))) = refl
+number-type (suc (suc (suc (suc zero)))) = refl
+number-type (suc (suc (suc (suc (suc zero))))) = refl
+number-type (suc (suc (suc (suc (suc (suc n)))))) = omega arith
 
 -- a known number that is none of the first six
 pub type-last : (n : ℕ) → (n ≡ 0 → ⊥) → (n ≡ 1 → ⊥) → (n ≡ 2 → ⊥) → (n ≡ 3 → ⊥) → (n ≡ 4 → ⊥) → (n ≡ 5 → ⊥) → FinAck ≡ typeOf n
@@ -45,13 +45,3 @@ type-last (suc (suc (suc zero))) a b c d e f = absurd (d refl)
 type-last (suc (suc (suc (suc zero)))) a b c d e f = absurd (e refl)
 type-last (suc (suc (suc (suc (suc zero))))) a b c d e f = absurd (f refl)
 type-last (suc (suc (suc (suc (suc (suc n)))))) a b c d e f = refl
-
--- a number below 6 is a type's exactly where the type was made of it
-pub type-is : (n k : ℕ) → k < 6 → eqb (typeNumber (typeOf n)) k ≡ eqb n k
-type-is zero k h = refl
-type-is (suc zero) k h = refl
-type-is (suc (suc zero)) k h = refl
-type-is (suc (suc (suc zero))) k h = refl
-type-is (suc (suc (suc (suc zero)))) k h = refl
-type-is (suc (suc (suc (suc (suc zero))))) k h = refl
-type-is (suc (suc (suc (suc (suc (suc n)))))) k h = ne-eqb 6 k (λ e. omega arith) ∙ sym (ne-eqb (suc (suc (suc (suc (suc (suc n)))))) k (λ e. omega arith))

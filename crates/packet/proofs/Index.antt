@@ -1,7 +1,7 @@
 -- What an index lists once a datagram is parsed: each cell lies within the datagram, and the cells read back as the packets that the walk met.
 -- How many cells are enough for every datagram.
 -- Assumes nothing.
-use Prim.Native.Nat.{ℕ, zero, suc, _+_, _-_, _*_, _/_, _<_, _≤_}
+use Prim.Native.Nat.{ℕ, zero, suc, _+_, _-_, _*_, _/_, _<_, _≤_, min}
 use mathlib.Core.Path.{_≡_, refl, sym, ap, _∙_, subst}
 use mathlib.Core.Bool.{Bool, true, false, cond}
 use mathlib.Core.List.{List, [], _∷_, _++_, map}
@@ -10,7 +10,7 @@ use native.Mathlib.Decide.{decLe}
 use native.Mathlib.Nat.{add-zero}
 use lib.ListN.{length, getD, take, drop, length-take, length-drop}
 use lib.Seq.{sets-eq, length-sets, getD-take, getD-drop, drop-drop, take-all}
-use lib.Dec.{ltb, eqb}
+use lib.Dec.{ltb}
 use borrow.Author.Tests.{ltb-false, le-ltb}
 use Rattle.refusal.specs.Said.{Said, answers, refuses, refusesAt}
 use Rattle.lists.specs.Numbers.{largest}
@@ -19,7 +19,7 @@ use Rattle.lists.proofs.Table.{Every, every-at}
 use Rattle.header.specs.Types.{typeNumber}
 use Rattle.header.specs.Header.{typeAt, fieldAt, packetNumberAt, headerAt}
 use Rattle.header.specs.declared.BluefinHeader.{BluefinHeader}
-use Rattle.header.proofs.Types.{type-is}
+use Rattle.header.proofs.Types.{number-type}
 use Rattle.packet.specs.Packet.{Packet}
 use Rattle.packet.specs.Datagram.{readingLimit, packetsOf, cellsIn, flat, counted, parsed, cellsWritten, parsesInto, parses, packetAt, listed, Listed}
 use Rattle.packet.proofs.Walk.{walk-all, begin-long}
@@ -86,9 +86,9 @@ module _ (s : List ℕ) (at len : ℕ) where
   unfolding packetAt headerAt
   field-is = refl
 
-  pub has-type : (k : ℕ) → k < 6 → eqb (typeNumber (packetAt s (at, len) .header .«type_field»)) k ≡ eqb (typeAt s at) k
+  pub type-is : typeNumber (packetAt s (at, len) .header .«type_field») ≡ min (typeAt s at) 6
   unfolding packetAt headerAt
-  has-type = type-is (typeAt s at)
+  type-is = number-type (typeAt s at)
 
 module _ (s : List ℕ) where
   pub none-listed : (index : List ℕ) → listed s index 0 ≡ []

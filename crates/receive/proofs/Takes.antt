@@ -1,29 +1,30 @@
 -- Laws of `takes` and `takesAll`: what a packet's type decides, and the walk over the packets of an index, one packet on.
 -- Assumes nothing.
 use Prim.Native.Nat.{ℕ, suc, _+_, _-_, _*_, _<_, _≤_}
-use mathlib.Core.Path.{_≡_, sym, ap, _∙_}
+use mathlib.Core.Path.{_≡_, ap, _∙_}
 use mathlib.Core.List.{List}
 use native.Mathlib.Omega.{arith}
 use lib.ListN.{length, getD, set, drop}
 use borrow.Author.Tests.{eq-eqb, ne-eqb}
 use Rattle.refusal.specs.Said.{Said, refusalIn}
+use Rattle.header.specs.Types.{typeNumber}
 use Rattle.header.specs.Header.{typeAt}
 use Rattle.packet.specs.Packet.{Packet}
 use Rattle.packet.specs.Datagram.{packetAt, listed}
-use Rattle.packet.proofs.Index.{has-type, none-listed, listed-next}
+use Rattle.packet.proofs.Index.{type-is, none-listed, listed-next}
 use Rattle.receive.specs.Datagram.{Progress, progress, takes, takesAll, takesListed, Leaves}
 
 -- the packet at a cursor, whose type number was read: of another type, or of this one
 module _ {S : Type 0} (Good : S → Type 0) (type : ℕ) (call : S → Packet → Said Unit × S) (early : type < 6) (s : List ℕ) (i at len : ℕ) (x : S) (answers : List ℕ)
     {t : ℕ} (read : t ≡ typeAt s at) where
   pub taken-other : (t ≡ type → ⊥) → Good x → Leaves Good (takes type call i (packetAt s (at, len)) (progress x answers)) (progress x answers)
-  taken-other k good = record { same = rw (has-type s at len type early, ne-eqb (typeAt s at) type (λ e. k (read ∙ e))); good = good }
+  taken-other k good = record { same = rw (ne-eqb (typeNumber (packetAt s (at, len) .header .«type_field»)) type (λ e. k (omega (arith, type-is s at len)))); good = good }
 
   pub taken-one : {y : S} {r : ℕ} → t ≡ type →
       let made = call x (packetAt s (at, len)) in
       r ≡ refusalIn (made .0) → y ≡ made .1 → Good y → Leaves Good (takes type call i (packetAt s (at, len)) (progress x answers)) (progress y (set answers i r))
   taken-one k answer left good =
-      record { same = rw (answer, left, has-type s at len type early, eq-eqb (typeAt s at) type (sym read ∙ k)); good = good }
+      record { same = rw (answer, left, eq-eqb (typeNumber (packetAt s (at, len) .header .«type_field»)) type (omega (arith, type-is s at len))); good = good }
 
 module _ {S : Type 0} (type : ℕ) (call : S → Packet → Said Unit × S) (s index : List ℕ) (n : ℕ) where
   -- what is left to do, the i-th packet being the next

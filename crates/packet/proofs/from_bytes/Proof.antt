@@ -29,9 +29,10 @@ returns : tie.Need-returns
 returns c =
     let parsed = c .before .before in
     let told = parsed .before .before in
-    let start = told .before .before .before .before .before in
+    let counted = told .before .before in
+    let start = counted .before .before .before in
     parsed .from-bytes-into .ensures
-    ∙ parses-counted (now (start .args .datagram)) (now (start .args .index)) (sym (told .before .before .count .ensures) ∙ ap parsedSays (told .enum-told .given .1))
+    ∙ parses-counted (now (start .args .datagram)) (now (start .args .index)) (sym (counted .count .ensures) ∙ ap parsedSays (told .enum-told .given .1))
 
 returns-2 : tie.Need-returns-2
 returns-2 c =

@@ -14,10 +14,11 @@ use Rattle.packet.proofs.Step.{header-last, payload-short, payload-whol
 use Rattle.packet.proofs.look_at.Statement.{statement}
 use Rattle.packet.proofs.look_at.Tie as tie
 
+abbrev start : tie.After-row-in-unchecked → tie.Start
+start c = let left = c .before .before .before in left .before .before
+
 -- the row of the table that was read is the rule's
-row : (c : tie.After-row-in-unchecked) →
-    let start = c .before .before .before .before .before in
-    c .row-in-unchecked .result ≡ rowOf (typeAt (now (start .args .datagram)) (start .args .at))
+row : (c : tie.After-row-in-unchecked) → c .row-in-unchecked .result ≡ rowOf (typeAt (now (start c .args .datagram)) (start c .args .at))
 row c = c .row-in-unchecked .ensures ∙ ap rowOf (c .before .type-at-unchecked .ensures)
 
 sub-left : tie.Need-sub-left
@@ -51,13 +52,15 @@ cast-field : tie.Need-cast-field
 cast-field c = search needs
 
 -- a packet with a payload, which is missing or not
+abbrev seen : tie.After-field-at-unchecked → tie.After-row-in-unchecked
+seen c = let known = c .before .before .before in known .before .before
+
 paid : (c : tie.After-field-at-unchecked) {t : Bool} →
-    let start = c .before .before .before .before .before .before .before .before .before .before in
-    payloadMissing (length (now (start .args .datagram))) (start .args .at) (c .field-at-unchecked .result) ≡ t
-    → lookAt (now (start .args .datagram)) (start .args .at) ≡ cond t (Fault PayloadMissing) (Packet (c .field-at-unchecked .result))
+    let k = start (seen c) .args in
+    payloadMissing (length (now (k .datagram))) (k .at) (c .field-at-unchecked .result) ≡ t → lookAt (now (k .datagram)) (k .at) ≡ cond t (Fault PayloadMissing) (Packet (c .field-at-unchecked .result))
 paid c =
     let known = c .before .before .before in
-    let read = known .before .before in
+    let read = seen c in
     at-payload _ _ (read .before .before .if2 .left) (row read) (known .if3 .left) (c .before .if4 .left) (c .field-at-unchecked .ensures)
 
 returns-5 : tie.Need-returns-5
