@@ -3,11 +3,9 @@ use borrow.Author.Needs.{needs}
 use Rattle.header.proofs.row_in_unchecked.Statement.{statement}
 use Rattle.header.proofs.row_in_unchecked.Tie as tie
 
-element-copy-out-kind : tie.Need-element-copy-out-kind
-element-copy-out-kind c = search needs
-
 returns : tie.Need-returns
 returns c = c .before .pre .0 (c .before .args .number) (c .before .pre .1)
 
 pub row-in-unchecked-spec : {M : Type 1} → statement M
-row-in-unchecked-spec = tie.close (tie.spec element-copy-out-kind returns)
+row-in-unchecked-spec =
+    tie.close (tie.spec (λ c. search needs) returns)

@@ -42,9 +42,6 @@ returns-2 : tie.Need-returns-2 Inv-loop μ-loop
 unfolding readingLimit
 returns-2 c = ap said (sym (out-ending _ 0 [] zero-le (begin-short _ (c .before .if1 .left) (c .if2 .taken)))) ∙ said-all _ _
 
-type-table-requires : tie.Need-type-table-requires Inv-loop μ-loop
-type-table-requires c κs = search needs
-
 loop-holds : tie.Need-loop-holds Inv-loop μ-loop
 unfolding readingLimit
 loop-holds c =
@@ -56,16 +53,10 @@ loop-holds c =
 step-at-requires : tie.Need-step-at-requires Inv-loop μ-loop
 step-at-requires c κs = (c .before .loop .inv .0, c .before .loop .inv .1, c .before .before .type-table .ensures)
 
-enum-known-found : tie.Need-enum-known-found Inv-loop μ-loop
-enum-known-found c = search needs
-
 returns-3 : tie.Need-returns-3 Inv-loop μ-loop
 returns-3 c =
     let made = c .before .before .before in
     ap said (sym (stepped made (c .before .found .given .1) [])) ∙ made .before .before .loop .inv .2
-
-enum-known-found-2 : tie.Need-enum-known-found-2 Inv-loop μ-loop
-enum-known-found-2 c = search needs
 
 add-n : tie.Need-add-n Inv-loop μ-loop
 add-n c = let on = stepped (c .before .before .before) (c .before .found2 .given .1) in omega (arith, on .free)
@@ -82,17 +73,5 @@ loop-again c =
 pub count-spec : {M : Type 1} → statement M
 count-spec =
     tie.close
-    (tie.spec
-    Inv-loop
-    μ-loop
-    returns
-    returns-2
-    type-table-requires
-    loop-holds
-    step-at-requires
-    enum-known-found
-    returns-3
-    enum-known-found-2
-    add-n
-    loop-less
-    loop-again)
+    (tie.spec Inv-loop μ-loop returns returns-2 (λ c κs. search needs) loop-holds step-at-requires (λ c. search needs) returns-3 (λ c. search needs) add-n
+    loop-less loop-again)

@@ -7,23 +7,8 @@ use Rattle.packet.proofs.Walk.{parses-counted, parses-refused, parses-r
 use Rattle.packet.proofs.from_bytes.Statement.{statement}
 use Rattle.packet.proofs.from_bytes.Tie as tie
 
-count-requires : tie.Need-count-requires
-count-requires c κs = search needs
-
 enum-told : tie.Need-enum-told
 enum-told c = search needs
-
-from-bytes-into-requires : tie.Need-from-bytes-into-requires
-from-bytes-into-requires c κs = search needs
-
-enum-known-counted : tie.Need-enum-known-counted
-enum-known-counted c = search needs
-
-enum-known-counted-2 : tie.Need-enum-known-counted-2
-enum-known-counted-2 c = search needs
-
-same-length : tie.Need-same-length
-same-length c = search needs
 
 returns : tie.Need-returns
 returns c =
@@ -47,13 +32,5 @@ returns-3 c =
 pub from-bytes-spec : {M : Type 1} → statement M
 from-bytes-spec =
     tie.close
-    (tie.spec
-    count-requires
-    enum-told
-    from-bytes-into-requires
-    enum-known-counted
-    enum-known-counted-2
-    same-length
-    returns
-    returns-2
+    (tie.spec (λ c κs. search needs) enum-told (λ c κs. search needs) (λ c. search needs) (λ c. search needs) (λ c. search needs) returns returns-2
     returns-3)

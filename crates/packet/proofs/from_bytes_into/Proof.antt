@@ -7,14 +7,9 @@ use Rattle.refusal.specs.Said.{Said}
 use Rattle.packet.proofs.from_bytes_into.Statement.{statement}
 use Rattle.packet.proofs.from_bytes_into.Tie as tie
 
-index-packets-requires : tie.Need-index-packets-requires
-index-packets-requires c κs = search needs
-
-same-length : tie.Need-same-length
-same-length c = search needs
-
 returns : tie.Need-returns
 returns c = ap (λ (x : Said ℕ × List ℕ × ℕ). (x .0, x .1)) (c .before .before .index-packets .ensures)
 
 pub from-bytes-into-spec : {M : Type 1} → statement M
-from-bytes-into-spec = tie.close (tie.spec index-packets-requires same-length returns)
+from-bytes-into-spec =
+    tie.close (tie.spec (λ c κs. search needs) (λ c. search needs) returns)

@@ -46,9 +46,6 @@ returns-2 c =
     let start = c .before .before .before .before in
     sym (out-ending _ 0 _ zero-le (begin-short _ (c .before .if1 .left) (c .if2 .taken))) ∙ out-all _ (now (start .args .index))
 
-type-table-requires : tie.Need-type-table-requires Inv-loop μ-loop
-type-table-requires c κs = search needs
-
 loop-holds : tie.Need-loop-holds Inv-loop μ-loop
 unfolding readingLimit
 loop-holds c =
@@ -60,9 +57,6 @@ loop-holds c =
 step-at-requires : tie.Need-step-at-requires Inv-loop μ-loop
 step-at-requires c κs = (c .before .loop .inv .0, c .before .loop .inv .1, c .before .before .type-table .ensures)
 
-enum-known-found : tie.Need-enum-known-found Inv-loop μ-loop
-enum-known-found c = search needs
-
 same-length : tie.Need-same-length Inv-loop μ-loop
 same-length c = let made = c .before .before .before in made .before .before .loop .inv .3
 
@@ -71,18 +65,12 @@ returns-3 c =
     let made = c .before .before .before in
     sym (stepped made (c .before .found .given .1) _) ∙ made .before .before .loop .inv .4
 
-enum-known-found-2 : tie.Need-enum-known-found-2 Inv-loop μ-loop
-enum-known-found-2 c = search needs
-
 mul-cell : tie.Need-mul-cell Inv-loop μ-loop
 mul-cell c = let on = stepped (c .before .before .before) (c .before .found2 .given .1) in omega (arith, on .free)
 
 cast-index : tie.Need-cast-index Inv-loop μ-loop
 unfolding readingLimit
 cast-index c = omega arith
-
-mul-index : tie.Need-mul-index Inv-loop μ-loop
-mul-index c = search needs
 
 slice-write-index : tie.Need-slice-write-index Inv-loop μ-loop
 slice-write-index c = let on = stepped (c .before .before .before) (c .before .found2 .given .1) in omega (arith, on .free)
@@ -93,9 +81,6 @@ cast-index-2 c = let on = stepped (c .before .before .before) (c .before .found2
 
 add-index : tie.Need-add-index Inv-loop μ-loop
 add-index c = let on = stepped (c .before .before .before) (c .before .found2 .given .1) in omega (arith, on .free)
-
-mul-index-2 : tie.Need-mul-index-2 Inv-loop μ-loop
-mul-index-2 c = search needs
 
 slice-write-index-2 : tie.Need-slice-write-index-2 Inv-loop μ-loop
 slice-write-index-2 c = let on = stepped (c .before .before .before) (c .before .found2 .given .1) in simp length-set (omega (arith, on .free))
@@ -116,26 +101,6 @@ loop-again c =
 pub index-packets-spec : {M : Type 1} → statement M
 index-packets-spec =
     tie.close
-    (tie.spec
-    Inv-loop
-    μ-loop
-    returns
-    returns-2
-    type-table-requires
-    loop-holds
-    step-at-requires
-    enum-known-found
-    same-length
-    returns-3
-    enum-known-found-2
-    mul-cell
-    cast-index
-    mul-index
-    slice-write-index
-    cast-index-2
-    add-index
-    mul-index-2
-    slice-write-index-2
-    add-n
-    loop-less
-    loop-again)
+    (tie.spec Inv-loop μ-loop returns returns-2 (λ c κs. search needs) loop-holds step-at-requires (λ c. search needs) same-length returns-3
+    (λ c. search needs) mul-cell cast-index (λ c. search needs) slice-write-index cast-index-2 add-index (λ c. search needs) slice-write-index-2 add-n
+    loop-less loop-again)

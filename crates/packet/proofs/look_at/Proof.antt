@@ -21,20 +21,11 @@ start c = let left = c .before .before .before in left .before .before
 row : (c : tie.After-row-in-unchecked) → c .row-in-unchecked .result ≡ rowOf (typeAt (now (start c .args .datagram)) (start c .args .at))
 row c = c .row-in-unchecked .ensures ∙ ap rowOf (c .before .type-at-unchecked .ensures)
 
-sub-left : tie.Need-sub-left
-sub-left c = search needs
-
 returns : tie.Need-returns
 returns c = sym (at-end _ _ (c .if1 .taken))
 
 returns-2 : tie.Need-returns-2
 returns-2 c = sym (at-tail _ _ (c .before .if1 .left) (c .if2 .taken))
-
-type-at-unchecked-requires : tie.Need-type-at-unchecked-requires
-type-at-unchecked-requires c κs = search needs
-
-row-in-unchecked-requires : tie.Need-row-in-unchecked-requires
-row-in-unchecked-requires c κs = search needs
 
 returns-3 : tie.Need-returns-3
 returns-3 c = let read = c .before .before in sym (at-unknown _ _ (read .before .before .if2 .left) (row read) (c .if3 .taken))
@@ -44,12 +35,6 @@ returns-4 c =
     let known = c .before .before in
     let read = known .before .before in
     sym (at-no-payload _ _ (read .before .before .if2 .left) (row read) (known .if3 .left) (c .if4 .taken))
-
-field-at-unchecked-requires : tie.Need-field-at-unchecked-requires
-field-at-unchecked-requires c κs = search needs
-
-cast-field : tie.Need-cast-field
-cast-field c = search needs
 
 -- a packet with a payload, which is missing or not
 abbrev seen : tie.After-field-at-unchecked → tie.After-row-in-unchecked
@@ -66,9 +51,6 @@ paid c =
 returns-5 : tie.Need-returns-5
 returns-5 c = sym (paid (c .before) (header-last _ _ _ (c .if5 .taken)))
 
-add-if6 : tie.Need-add-if6
-add-if6 c = search needs
-
 returns-6 : tie.Need-returns-6
 returns-6 c = sym (paid (c .before .before) (payload-short _ _ _ (c .before .if5 .left) (c .if6 .taken)))
 
@@ -78,17 +60,5 @@ returns-7 c = sym (paid (c .before .before) (payload-whole _ _ _ (c .before .if5
 pub look-at-spec : {M : Type 1} → statement M
 look-at-spec =
     tie.close
-    (tie.spec
-    sub-left
-    returns
-    returns-2
-    type-at-unchecked-requires
-    row-in-unchecked-requires
-    returns-3
-    returns-4
-    field-at-unchecked-requires
-    cast-field
-    returns-5
-    add-if6
-    returns-6
-    returns-7)
+    (tie.spec (λ c. search needs) returns returns-2 (λ c κs. search needs) (λ c κs. search needs) returns-3 returns-4 (λ c κs. search needs)
+    (λ c. search needs) returns-5 (λ c. search needs) returns-6 returns-7)

@@ -12,16 +12,10 @@ use Rattle.packet.proofs.serialise_into.Tie as tie
 abbrev packet : tie.Start → Packet
 packet s = record { header = s .args .header; payload = now (s .args .payload) }
 
-fields-too-large-requires : tie.Need-fields-too-large-requires
-fields-too-large-requires c κs = search needs
-
 returns : tie.Need-returns
 returns c =
     let start = c .before .before .before .before in
     fields-refused (packet start) (now (start .args .buf)) refl (sym (c .before .fields-too-large .ensures) ∙ c .if1 .taken)
-
-len-requires : tie.Need-len-requires
-len-requires c κs = search needs
 
 returns-2 : tie.Need-returns-2
 returns-2 c =
@@ -34,12 +28,6 @@ serialise-at-unchecked-requires c κs =
     let tested = c .before .before .before in
     let fit = fields-fit (tested .before .before .before .before .args .header) (sym (tested .before .fields-too-large .ensures) ∙ tested .if1 .left) in
     (fit .0, fit .1, omega (arith, c .before .before .len .ensures))
-
-put-requires : tie.Need-put-requires
-put-requires c κs = search needs
-
-same-length : tie.Need-same-length
-same-length c = search needs
 
 returns-3 : tie.Need-returns-3
 returns-3 c =
@@ -54,12 +42,5 @@ returns-3 c =
 pub serialise-into-spec : {M : Type 1} → statement M
 serialise-into-spec =
     tie.close
-    (tie.spec
-    fields-too-large-requires
-    returns
-    len-requires
-    returns-2
-    serialise-at-unchecked-requires
-    put-requires
-    same-length
+    (tie.spec (λ c κs. search needs) returns (λ c κs. search needs) returns-2 serialise-at-unchecked-requires (λ c κs. search needs) (λ c. search needs)
     returns-3)

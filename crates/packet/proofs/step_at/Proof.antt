@@ -13,26 +13,14 @@ use Rattle.packet.proofs.step_at.Tie as tie
 seen : (c : tie.After-look-at) {r : Look} → c .look-at .result ≡ r → lookAt (now (c .before .before .args .datagram)) (c .before .before .args .at) ≡ r
 seen c q = sym (c .look-at .ensures) ∙ q
 
-look-at-requires : tie.Need-look-at-requires
-look-at-requires c κs = search needs
-
 enum-told : tie.Need-enum-told
 enum-told c = search needs
-
-enum-known-found : tie.Need-enum-known-found
-enum-known-found c = search needs
-
-enum-known-found-2 : tie.Need-enum-known-found-2
-enum-known-found-2 c = search needs
 
 returns : tie.Need-returns
 returns c index =
     let found = c .before .before in
     let look = found .before .before in
     out-full _ _ index (look .before .before .pre .1) (c .if1 .taken) (walk-packet _ _ (seen look (found .found2 .given .1)))
-
-add-t15 : tie.Need-add-t15
-add-t15 c = search needs
 
 add-t16 : tie.Need-add-t16
 add-t16 c = let found = c .before .before in omega (arith, packet-within _ _ (seen (found .before .before) (found .found2 .given .1)))
@@ -60,14 +48,4 @@ returns-4 c =
 pub step-at-spec : {M : Type 1} → statement M
 step-at-spec =
     tie.close
-    (tie.spec
-    look-at-requires
-    enum-told
-    enum-known-found
-    enum-known-found-2
-    returns
-    add-t15
-    add-t16
-    returns-2
-    returns-3
-    returns-4)
+    (tie.spec (λ c κs. search needs) enum-told (λ c. search needs) (λ c. search needs) returns (λ c. search needs) add-t16 returns-2 returns-3 returns-4)

@@ -27,32 +27,11 @@ fits c = sym (c .before .well-formed .ensures) ∙ not-false _ (c .if1 .left)
 abbrev indexed : tie.After-accept-all-arg5 → tie.After-index-packets
 indexed c = let known = c .before .before .before in known .before .before .before .before
 
-well-formed-requires : tie.Need-well-formed-requires
-well-formed-requires c κs = search needs
-
-same-length : tie.Need-same-length
-same-length c = search needs
-
-same-length-2 : tie.Need-same-length-2
-same-length-2 c = search needs
-
-same-length-3 : tie.Need-same-length-3
-same-length-3 c = search needs
-
 returns : tie.Need-returns
 unfolding receiving
 returns c =
     let k = start (c .before) in
     whole-malformed 3 accepts (entry k) (now (k .args .datagram)) (now (k .args .index)) (now (k .args .answers)) (sym (c .before .well-formed .ensures) ∙ not-true _ (c .if1 .taken))
-
-same-length-4 : tie.Need-same-length-4
-same-length-4 c = search needs
-
-same-length-5 : tie.Need-same-length-5
-same-length-5 c = search needs
-
-same-length-6 : tie.Need-same-length-6
-same-length-6 c = search needs
 
 returns-2 : tie.Need-returns-2
 unfolding receiving
@@ -60,30 +39,12 @@ returns-2 c =
     let k = start (c .before .before) in
     whole-short 3 accepts (entry k) (now (k .args .datagram)) (now (k .args .index)) (now (k .args .answers)) (fits (c .before)) (c .if2 .taken)
 
-index-packets-requires : tie.Need-index-packets-requires
-index-packets-requires c κs = search needs
-
 accept-all-requires : tie.Need-accept-all-requires
 accept-all-requires c κs =
     let past = indexed c .before .before in
     let k = start (past .before .before) in
     let e = indexed c .index-packets .ensures in
     (fits (past .before), lists (now (k .args .datagram)) (now (k .args .index)) e, omega (arith, few (now (k .args .datagram)) (now (k .args .index)) e, past .if2 .left))
-
-same-length-7 : tie.Need-same-length-7
-same-length-7 c = search needs
-
-same-length-8 : tie.Need-same-length-8
-same-length-8 c = search needs
-
-same-length-9 : tie.Need-same-length-9
-same-length-9 c = search needs
-
-same-length-10 : tie.Need-same-length-10
-same-length-10 c = search needs
-
-same-length-11 : tie.Need-same-length-11
-same-length-11 c = search needs
 
 returns-3 : tie.Need-returns-3
 unfolding receiving
@@ -99,21 +60,6 @@ returns-3 c =
 pub receive-spec : {M : Type 1} → statement M
 receive-spec =
     tie.close
-    (tie.spec
-    well-formed-requires
-    same-length
-    same-length-2
-    same-length-3
-    returns
-    same-length-4
-    same-length-5
-    same-length-6
-    returns-2
-    index-packets-requires
-    accept-all-requires
-    same-length-7
-    same-length-8
-    same-length-9
-    same-length-10
-    same-length-11
-    returns-3)
+    (tie.spec (λ c κs. search needs) (λ c. search needs) (λ c. search needs) (λ c. search needs) returns (λ c. search needs) (λ c. search needs)
+    (λ c. search needs) returns-2 (λ c κs. search needs) accept-all-requires (λ c. search needs) (λ c. search needs) (λ c. search needs)
+    (λ c. search needs) (λ c. search needs) returns-3)

@@ -23,20 +23,11 @@ fits c = sym (c .before .well-formed .ensures) ∙ not-false _ (c .if1 .left)
 abbrev indexed : tie.After-enter-all-arg3 → tie.After-index-packets
 indexed c = let known = c .before .before .before in known .before .before
 
-well-formed-requires : tie.Need-well-formed-requires
-well-formed-requires c κs = search needs
-
-same-length : tie.Need-same-length
-same-length c = search needs
-
 returns : tie.Need-returns
 unfolding receivingAcks
 returns c =
     let k = start (c .before) in
     whole-malformed 4 enters (entry k) (now (k .args .datagram)) (now (k .args .index)) (now (k .args .answers)) (sym (c .before .well-formed .ensures) ∙ not-true _ (c .if1 .taken))
-
-same-length-2 : tie.Need-same-length-2
-same-length-2 c = search needs
 
 returns-2 : tie.Need-returns-2
 unfolding receivingAcks
@@ -44,24 +35,12 @@ returns-2 c =
     let k = start (c .before .before) in
     whole-short 4 enters (entry k) (now (k .args .datagram)) (now (k .args .index)) (now (k .args .answers)) (fits (c .before)) (c .if2 .taken)
 
-index-packets-requires : tie.Need-index-packets-requires
-index-packets-requires c κs = search needs
-
 enter-all-requires : tie.Need-enter-all-requires
 enter-all-requires c κs =
     let past = indexed c .before .before in
     let k = start (past .before .before) in
     let e = indexed c .index-packets .ensures in
     (fits (past .before), lists (now (k .args .datagram)) (now (k .args .index)) e, omega (arith, few (now (k .args .datagram)) (now (k .args .index)) e, past .if2 .left))
-
-same-length-3 : tie.Need-same-length-3
-same-length-3 c = search needs
-
-same-length-4 : tie.Need-same-length-4
-same-length-4 c = search needs
-
-same-length-5 : tie.Need-same-length-5
-same-length-5 c = search needs
 
 returns-3 : tie.Need-returns-3
 unfolding receivingAcks
@@ -76,15 +55,5 @@ returns-3 c =
 pub receive-acks-spec : {M : Type 1} → statement M
 receive-acks-spec =
     tie.close
-    (tie.spec
-    well-formed-requires
-    same-length
-    returns
-    same-length-2
-    returns-2
-    index-packets-requires
-    enter-all-requires
-    same-length-3
-    same-length-4
-    same-length-5
-    returns-3)
+    (tie.spec (λ c κs. search needs) (λ c. search needs) returns (λ c. search needs) returns-2 (λ c κs. search needs) enter-all-requires
+    (λ c. search needs) (λ c. search needs) (λ c. search needs) returns-3)

@@ -19,59 +19,8 @@ start c =
     let source = number .before .before .before in
     source .before .before .before .before
 
-leading-bytes-requires : tie.Need-leading-bytes-requires
-leading-bytes-requires c κs = search needs
-
-cast-be4 : tie.Need-cast-be4
-cast-be4 c = search needs
-
-be4-requires : tie.Need-be4-requires
-be4-requires c κs = search needs
-
-cast-be4-2 : tie.Need-cast-be4-2
-cast-be4-2 c = search needs
-
-be4-requires-2 : tie.Need-be4-requires-2
-be4-requires-2 c κs = search needs
-
-be8-requires : tie.Need-be8-requires
-be8-requires c κs = search needs
-
-slice-aggregate-put : tie.Need-slice-aggregate-put
-slice-aggregate-put c = search needs
-
-put-requires : tie.Need-put-requires
-put-requires c κs = search needs
-
-slice-aggregate-put-2 : tie.Need-slice-aggregate-put-2
-slice-aggregate-put-2 c = search needs
-
-add-put : tie.Need-add-put
-add-put c = search needs
-
-put-requires-2 : tie.Need-put-requires-2
-put-requires-2 c κs = search needs
-
-slice-aggregate-put-3 : tie.Need-slice-aggregate-put-3
-slice-aggregate-put-3 c = search needs
-
-add-put-2 : tie.Need-add-put-2
-add-put-2 c = search needs
-
-put-requires-3 : tie.Need-put-requires-3
-put-requires-3 c κs = search needs
-
-slice-aggregate-put-4 : tie.Need-slice-aggregate-put-4
-slice-aggregate-put-4 c = search needs
-
 add-put-3 : tie.Need-add-put-3
 add-put-3 c = let begun = start (first (second (c .before .before .before .before))) in omega arith
-
-put-requires-4 : tie.Need-put-requires-4
-put-requires-4 c κs = search needs
-
-same-length : tie.Need-same-length
-same-length c = search needs
 
 returns : tie.Need-returns
 returns c =
@@ -89,23 +38,6 @@ returns c =
 pub serialise-at-unchecked-spec : {M : Type 1} → statement M
 serialise-at-unchecked-spec =
     tie.close
-    (tie.spec
-    leading-bytes-requires
-    cast-be4
-    be4-requires
-    cast-be4-2
-    be4-requires-2
-    be8-requires
-    slice-aggregate-put
-    put-requires
-    slice-aggregate-put-2
-    add-put
-    put-requires-2
-    slice-aggregate-put-3
-    add-put-2
-    put-requires-3
-    slice-aggregate-put-4
-    add-put-3
-    put-requires-4
-    same-length
-    returns)
+    (tie.spec (λ c κs. search needs) (λ c. search needs) (λ c κs. search needs) (λ c. search needs) (λ c κs. search needs) (λ c κs. search needs)
+    (λ c. search needs) (λ c κs. search needs) (λ c. search needs) (λ c. search needs) (λ c κs. search needs) (λ c. search needs) (λ c. search needs)
+    (λ c κs. search needs) (λ c. search needs) add-put-3 (λ c κs. search needs) (λ c. search needs) returns)

@@ -6,9 +6,6 @@ use Rattle.header.proofs.Fields.{fields-fit}
 use Rattle.header.proofs.BluefinHeader.serialise_into.Statement.{statement}
 use Rattle.header.proofs.BluefinHeader.serialise_into.Tie as tie
 
-fields-too-large-requires : tie.Need-fields-too-large-requires
-fields-too-large-requires c κs = search needs
-
 returns : tie.Need-returns
 returns c = simp (sym (c .before .fields-too-large .ensures) ∙ c .if1 .taken)
 
@@ -21,9 +18,6 @@ serialise-at-unchecked-requires c κs =
     let fit = fields-fit (tested .before .before .before .args .self) (sym (tested .before .fields-too-large .ensures) ∙ tested .if1 .left) in
     (fit .0, fit .1, search needs)
 
-same-length : tie.Need-same-length
-same-length c = search needs
-
 returns-3 : tie.Need-returns-3
 returns-3 c =
     let wrote = c .before .before in
@@ -33,5 +27,4 @@ returns-3 c =
 
 pub serialise-into-spec : {M : Type 1} → statement M
 serialise-into-spec =
-    tie.close
-    (tie.spec fields-too-large-requires returns returns-2 serialise-at-unchecked-requires same-length returns-3)
+    tie.close (tie.spec (λ c κs. search needs) returns returns-2 serialise-at-unchecked-requires (λ c. search needs) returns-3)

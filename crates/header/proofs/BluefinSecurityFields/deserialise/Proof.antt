@@ -7,15 +7,9 @@ use Rattle.header.proofs.BluefinSecurityFields.deserialise.Tie as tie
 returns : tie.Need-returns
 returns c = simp (eq-eqb _ _ (c .if1 .taken))
 
-shared-slice-read-of-byte : tie.Need-shared-slice-read-of-byte
-shared-slice-read-of-byte c = search needs
-
-of-byte-requires : tie.Need-of-byte-requires
-of-byte-requires c κs = search needs
-
 returns-2 : tie.Need-returns-2
 returns-2 c = simp (ne-eqb _ _ (c .before .before .if1 .left), c .of-byte .ensures)
 
 pub deserialise-spec : {M : Type 1} → statement M
 deserialise-spec =
-    tie.close (tie.spec returns shared-slice-read-of-byte of-byte-requires returns-2)
+    tie.close (tie.spec returns (λ c. search needs) (λ c κs. search needs) returns-2)

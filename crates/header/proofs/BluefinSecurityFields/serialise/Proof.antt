@@ -7,11 +7,9 @@ use Rattle.header.proofs.BluefinSecurityFields.serialise.Tie as tie
 returns : tie.Need-returns
 returns c = simp (lt-ltb _ _ (c .if1 .taken))
 
-byte-requires : tie.Need-byte-requires
-byte-requires c κs = search needs
-
 returns-2 : tie.Need-returns-2
 returns-2 c = simp (le-ltb _ _ (c .before .if1 .left), c .byte .ensures)
 
 pub serialise-spec : {M : Type 1} → statement M
-serialise-spec = tie.close (tie.spec returns byte-requires returns-2)
+serialise-spec =
+    tie.close (tie.spec returns (λ c κs. search needs) returns-2)

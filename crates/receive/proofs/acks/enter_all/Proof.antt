@@ -34,15 +34,6 @@ left k = rest 4 enters (now (k .args .datagram)) (now (k .args .index)) (k .args
 loop-holds : tie.Need-loop-holds Inv-loop μ-loop
 loop-holds c = let k = start c in (zero-le, k .pre .0, refl, refl, rest-begin 4 enters (now (k .args .datagram)) (now (k .args .index)) (k .args .n) _)
 
-mul-cell : tie.Need-mul-cell Inv-loop μ-loop
-mul-cell c = search needs
-
-mul-at : tie.Need-mul-at Inv-loop μ-loop
-mul-at c = search needs
-
-shared-slice-read-at : tie.Need-shared-slice-read-at Inv-loop μ-loop
-shared-slice-read-at c = search needs
-
 cast-at : tie.Need-cast-at Inv-loop μ-loop
 cast-at c = omega (arith, c .shared-slice-known3 .given (2 * c .before .before .loop .i))
 
@@ -52,12 +43,6 @@ enter-listed-requires c κs =
     let at = test .before in
     let k = start (at .before) in
     (at .loop .inv .1, header-within (k .pre .1) (at .loop .i) (test .loop-test .taken), omega (arith, test .loop-test .taken, k .pre .2))
-
-add-i : tie.Need-add-i Inv-loop μ-loop
-add-i c = search needs
-
-loop-less : tie.Need-loop-less Inv-loop μ-loop
-loop-less c = search needs
 
 loop-again : tie.Need-loop-again Inv-loop μ-loop
 loop-again c =
@@ -73,12 +58,6 @@ loop-again c =
       ap (left k (at .loop .i + 1)) (made .enter-listed .ensures .same) ∙ sym on ∙ at .loop .inv .4,
     )
 
-same-length : tie.Need-same-length Inv-loop μ-loop
-same-length c = search needs
-
-same-length-2 : tie.Need-same-length-2 Inv-loop μ-loop
-same-length-2 c = search needs
-
 returns : tie.Need-returns Inv-loop μ-loop
 returns c =
     let k = start (c .before .before) in
@@ -87,18 +66,5 @@ returns c =
 pub enter-all-spec : {M : Type 1} → statement M
 enter-all-spec =
     tie.close
-    (tie.spec
-    Inv-loop
-    μ-loop
-    loop-holds
-    mul-cell
-    mul-at
-    shared-slice-read-at
-    cast-at
-    enter-listed-requires
-    add-i
-    loop-less
-    loop-again
-    same-length
-    same-length-2
-    returns)
+    (tie.spec Inv-loop μ-loop loop-holds (λ c. search needs) (λ c. search needs) (λ c. search needs) cast-at enter-listed-requires (λ c. search needs)
+    (λ c. search needs) loop-again (λ c. search needs) (λ c. search needs) returns)

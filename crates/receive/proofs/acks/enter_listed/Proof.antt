@@ -8,36 +8,12 @@ use Rattle.receive.proofs.Steps.{entered}
 use Rattle.receive.proofs.acks.enter_listed.Statement.{statement}
 use Rattle.receive.proofs.acks.enter_listed.Tie as tie
 
-type-at-unchecked-requires : tie.Need-type-at-unchecked-requires
-type-at-unchecked-requires c κs = search needs
-
 returns : tie.Need-returns
 returns c =
     let read = c .before in
     let start = read .before .before .before .before in
     taken-other WellAcks 4 enters (omega arith) _ _ (start .args .at) 0 (acksOf (start .args .w) (now (start .args .cells))) _ (read .type-at-unchecked .ensures) (c .if1 .taken)
     (start .pre .0)
-
-number-at-unchecked-requires : tie.Need-number-at-unchecked-requires
-number-at-unchecked-requires c κs = search needs
-
-field-at-unchecked-requires : tie.Need-field-at-unchecked-requires
-field-at-unchecked-requires c κs = search needs
-
-insert-range-unchecked-requires : tie.Need-insert-range-unchecked-requires
-insert-range-unchecked-requires c κs = search needs
-
-entered-by-requires : tie.Need-entered-by-requires
-entered-by-requires c κs = search needs
-
-slice-write-answers : tie.Need-slice-write-answers
-slice-write-answers c = search needs
-
-same-length : tie.Need-same-length
-same-length c = search needs
-
-same-length-2 : tie.Need-same-length-2
-same-length-2 c = search needs
 
 returns-2 : tie.Need-returns-2
 returns-2 c =
@@ -53,14 +29,5 @@ returns-2 c =
 pub enter-listed-spec : {M : Type 1} → statement M
 enter-listed-spec =
     tie.close
-    (tie.spec
-    type-at-unchecked-requires
-    returns
-    number-at-unchecked-requires
-    field-at-unchecked-requires
-    insert-range-unchecked-requires
-    entered-by-requires
-    slice-write-answers
-    same-length
-    same-length-2
-    returns-2)
+    (tie.spec (λ c κs. search needs) returns (λ c κs. search needs) (λ c κs. search needs) (λ c κs. search needs) (λ c κs. search needs)
+    (λ c. search needs) (λ c. search needs) (λ c. search needs) returns-2)

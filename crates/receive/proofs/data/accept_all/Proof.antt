@@ -42,26 +42,8 @@ loop-holds c =
     let k = start c in
     (zero-le, k .pre .0, refl, refl, refl, refl, rest-begin 3 accepts (now (k .args .datagram)) (now (k .args .index)) (k .args .n) _)
 
-mul-cell : tie.Need-mul-cell Inv-loop μ-loop
-mul-cell c = search needs
-
-mul-at : tie.Need-mul-at Inv-loop μ-loop
-mul-at c = search needs
-
-shared-slice-read-at : tie.Need-shared-slice-read-at Inv-loop μ-loop
-shared-slice-read-at c = search needs
-
 cast-at : tie.Need-cast-at Inv-loop μ-loop
 cast-at c = omega (arith, c .shared-slice-known3 .given (2 * c .before .before .loop .i))
-
-add-len : tie.Need-add-len Inv-loop μ-loop
-add-len c = search needs
-
-mul-len : tie.Need-mul-len Inv-loop μ-loop
-mul-len c = search needs
-
-shared-slice-read-len : tie.Need-shared-slice-read-len Inv-loop μ-loop
-shared-slice-read-len c = search needs
 
 cast-len : tie.Need-cast-len Inv-loop μ-loop
 cast-len c = omega (arith, c .shared-slice-known4 .given (2 * c .before .before .before .loop .i + 1))
@@ -71,12 +53,6 @@ accept-listed-requires c κs =
     let at = turn c .before in
     let k = start (at .before) in
     (at .loop .inv .1, k .pre .1 .within (at .loop .i) (turn c .loop-test .taken), omega (arith, turn c .loop-test .taken, k .pre .2))
-
-add-i : tie.Need-add-i Inv-loop μ-loop
-add-i c = search needs
-
-loop-less : tie.Need-loop-less Inv-loop μ-loop
-loop-less c = search needs
 
 loop-again : tie.Need-loop-again Inv-loop μ-loop
 loop-again c =
@@ -95,18 +71,6 @@ loop-again c =
       ap (left k (at .loop .i + 1)) (made .accept-listed .ensures .same) ∙ sym on ∙ at .loop .inv .6,
     )
 
-same-length : tie.Need-same-length Inv-loop μ-loop
-same-length c = search needs
-
-same-length-2 : tie.Need-same-length-2 Inv-loop μ-loop
-same-length-2 c = search needs
-
-same-length-3 : tie.Need-same-length-3 Inv-loop μ-loop
-same-length-3 c = search needs
-
-same-length-4 : tie.Need-same-length-4 Inv-loop μ-loop
-same-length-4 c = search needs
-
 returns : tie.Need-returns Inv-loop μ-loop
 returns c =
     let k = start (c .before .before) in
@@ -115,24 +79,6 @@ returns c =
 pub accept-all-spec : {M : Type 1} → statement M
 accept-all-spec =
     tie.close
-    (tie.spec
-    Inv-loop
-    μ-loop
-    loop-holds
-    mul-cell
-    mul-at
-    shared-slice-read-at
-    cast-at
-    add-len
-    mul-len
-    shared-slice-read-len
-    cast-len
-    accept-listed-requires
-    add-i
-    loop-less
-    loop-again
-    same-length
-    same-length-2
-    same-length-3
-    same-length-4
-    returns)
+    (tie.spec Inv-loop μ-loop loop-holds (λ c. search needs) (λ c. search needs) (λ c. search needs) cast-at (λ c. search needs) (λ c. search needs)
+    (λ c. search needs) cast-len accept-listed-requires (λ c. search needs) (λ c. search needs) loop-again (λ c. search needs) (λ c. search needs)
+    (λ c. search needs) (λ c. search needs) returns)

@@ -18,53 +18,11 @@ start c = let known = c .before .before .before in known .before .before .before
 abbrev entry : tie.Start → Buffer
 entry k = bufferOf (k .args .o) (now (k .args .marks)) (now (k .args .lengths)) (now (k .args .store))
 
-type-at-unchecked-requires : tie.Need-type-at-unchecked-requires
-type-at-unchecked-requires c κs = search needs
-
 returns : tie.Need-returns
 returns c =
     let read = c .before in
     let k = start read in
     taken-other WellBuffer 3 accepts (omega arith) _ _ (k .args .at) (k .args .len) (entry k) _ (read .type-at-unchecked .ensures) (c .if1 .taken) (k .pre .0)
-
-number-at-unchecked-requires : tie.Need-number-at-unchecked-requires
-number-at-unchecked-requires c κs = search needs
-
-add-begin : tie.Need-add-begin
-add-begin c = search needs
-
-add-end : tie.Need-add-end
-add-end c = search needs
-
-sub-buffer-in-packet-unchecked : tie.Need-sub-buffer-in-packet-unchecked
-sub-buffer-in-packet-unchecked c = search needs
-
-part-buffer-in-packet-unchecked-start : tie.Need-part-buffer-in-packet-unchecked-start
-part-buffer-in-packet-unchecked-start c = search needs
-
-part-buffer-in-packet-unchecked-end : tie.Need-part-buffer-in-packet-unchecked-end
-part-buffer-in-packet-unchecked-end c = search needs
-
-buffer-in-packet-unchecked-requires : tie.Need-buffer-in-packet-unchecked-requires
-buffer-in-packet-unchecked-requires c κs = search needs
-
-refusal-in-requires : tie.Need-refusal-in-requires
-refusal-in-requires c κs = search needs
-
-slice-write-answers : tie.Need-slice-write-answers
-slice-write-answers c = search needs
-
-same-length : tie.Need-same-length
-same-length c = search needs
-
-same-length-2 : tie.Need-same-length-2
-same-length-2 c = search needs
-
-same-length-3 : tie.Need-same-length-3
-same-length-3 c = search needs
-
-same-length-4 : tie.Need-same-length-4
-same-length-4 c = search needs
 
 returns-2 : tie.Need-returns-2
 returns-2 c =
@@ -82,20 +40,6 @@ returns-2 c =
 pub accept-listed-spec : {M : Type 1} → statement M
 accept-listed-spec =
     tie.close
-    (tie.spec
-    type-at-unchecked-requires
-    returns
-    number-at-unchecked-requires
-    add-begin
-    add-end
-    sub-buffer-in-packet-unchecked
-    part-buffer-in-packet-unchecked-start
-    part-buffer-in-packet-unchecked-end
-    buffer-in-packet-unchecked-requires
-    refusal-in-requires
-    slice-write-answers
-    same-length
-    same-length-2
-    same-length-3
-    same-length-4
-    returns-2)
+    (tie.spec (λ c κs. search needs) returns (λ c κs. search needs) (λ c. search needs) (λ c. search needs) (λ c. search needs) (λ c. search needs)
+    (λ c. search needs) (λ c κs. search needs) (λ c κs. search needs) (λ c. search needs) (λ c. search needs) (λ c. search needs) (λ c. search needs)
+    (λ c. search needs) returns-2)
