@@ -1,15 +1,12 @@
 -- One test of refusal 12 stands for those of all the calls: each call leaves the state well formed, so that none of them answers 12.
 -- Assumes nothing.
 use Prim.Native.Nat.{ℕ, zero, suc, _≤_}
-use mathlib.Core.Path.{_≡_, sym, _∙_}
-use mathlib.Core.Bool.{Bool, true, false, true≢false, cond}
-use mathlib.Core.Logic.{inl, inr}
+use mathlib.Core.Path.{_≡_}
+use mathlib.Core.Bool.{Bool, true, false, cond}
 use mathlib.Core.List.{List, [], _∷_}
-use native.Mathlib.Omega.{arith}
 use lib.ListN.{getD, set}
 use lib.Dec.{eqb}
 use Rattle.refusal.specs.Said.{Said, refusalIn}
-use Rattle.refusal.proofs.Checks.{Failed}
 use Rattle.lists.specs.Numbers.{largest}
 use Rattle.lists.proofs.Bytes.{Bytes}
 use Rattle.lists.proofs.Table.{Every}
@@ -17,16 +14,13 @@ use Rattle.header.specs.Types.{typeNumber}
 use Rattle.packet.specs.Packet.{Packet}
 use Rattle.packet.specs.Datagram.{cellsWritten, parsesInto, packetAt}
 use Rattle.packet.proofs.Index.{number-fits, every-listed}
-use Rattle.ordered_bytes.specs.Receiver.{acceptChecks}
-use Rattle.ordered_bytes.specs.Buffer.{Buffer, view}
+use Rattle.ordered_bytes.specs.Buffer.{Buffer}
 use Rattle.ordered_bytes.specs.Buffer as buffer
-use Rattle.ordered_bytes.specs.Calls.{accepting}
-use Rattle.ordered_bytes.proofs.Outcome.{Accepting, malformed, refused, stores, accept-ways}
 use Rattle.ordered_bytes.proofs.Kept.{accept-kept}
-use Rattle.window.specs.Window.{Outcome, insertRange}
+use Rattle.ordered_bytes.proofs.Refused.{accept-never}
 use Rattle.window.specs.Window as window
 use Rattle.window.specs.declared.SlidingWindow.{SlidingWindow}
-use Rattle.window.proofs.Calls as calls
+use Rattle.window.proofs.Calls.{range-law, range-fine}
 use Rattle.receive.specs.Datagram.{Progress, progress, acksOf, accepts, enters, takes, takesAll, takesDatagram, receiving, receivingAcks, WellBuffer, WellAcks}
 use Rattle.receive.proofs.Whole.{whole-ways}
 
@@ -68,24 +62,6 @@ module _ {S : Type 0} (type : ℕ) (call : S → Packet → Said Unit × S) (s :
       let each = every-listed s Fits fits (parsesInto s index .1) (cellsWritten s index) 0 in
       whole-ways type call x s index answers well (λ e. Good (e .state) × None12 (e .answers)) (λ n. (good, none)) (all-fine _ 0 (progress x answers) each (good, none))
 
--- ---- accepting
-
-pub accept-never : (b : Buffer) (n : ℕ) (payload : List ℕ) → buffer.wellFormed b ≡ true → refusalIn (accepting b n payload .said) ≡ 12 → ⊥
-accept-never b n payload well h = by (accept-ways b n payload)
-  where
-    other : {r : ℕ} → Failed (acceptChecks (view b) n payload) r → r ≡ 12 → ⊥
-    other (inl f) q = omega (arith, f .1)
-    other (inr (_, inl f)) q = omega (arith, f .1)
-    other (inr (_, inr (_, inl f))) q = omega (arith, f .1)
-    other (inr (_, inr (_, inr (_, inl f)))) q = omega (arith, f .1)
-    other (inr (_, inr (_, inr (_, inr (_, inl f))))) q = omega (arith, f .1)
-    other (inr (_, inr (_, inr (_, inr (_, inr (_, f)))))) q = f
-
-    by : Accepting b n payload → ⊥
-    by (malformed m e) = true≢false (sym well ∙ m)
-    by (refused r g f e) = other f (rw e at h)
-    by (stores a e) = let z : _≡_ {A = ℕ} 0 12 = rw e at h in omega arith
-
 -- `receive` keeps the buffer well formed, and enters no 12 among the answers
 pub receive-fine : (b : Buffer) (s index answers : List ℕ) → Bytes s → buffer.wellFormed b ≡ true → None12 answers →
     let r = receiving b s index answers in
@@ -94,18 +70,8 @@ unfolding receiving
 receive-fine b s index answers bytes well none =
     datagram-fine 3 accepts s WellBuffer (λ p. p .header .«packet_number» ≤ largest) (number-fits s bytes)
     (λ x p small h. accept-kept x (p .header .«packet_number») (p .payload) small h)
-    (λ x p h. accept-never x (p .header .«packet_number») (p .payload) h)
+    (λ x p h. accept-never x h (p .header .«packet_number») (p .payload))
     (buffer.wellFormed b) b index answers well none
-
--- ---- entering acks
-
-pub range-never : (w : SlidingWindow) (cells : List ℕ) (base count : ℕ) → window.wellFormed w cells ≡ true → refusalIn (insertRange w cells base count .0) ≡ 12 → ⊥
-range-never w cells base count well = by (insertRange w cells base count) (calls.range-law w cells well base count .0)
-  where
-    by : (o : Outcome Unit) → calls.RangeInsertion w cells base count o → refusalIn (o .0) ≡ 12 → ⊥
-    by o (calls.stores q free a) e = omega (arith, rw q at e)
-    by o (calls.stops k u q free m a) e = omega (arith, rw q at e)
-    by o (calls.refusal r q not-7 not-12) e = not-12 (rw q at e)
 
 -- `receive_acks` keeps the window well formed, and enters no 12 among the answers
 pub receive-acks-fine : (w : SlidingWindow) (cells s index answers : List ℕ) → window.wellFormed w cells ≡ true → None12 answers →
@@ -114,6 +80,6 @@ pub receive-acks-fine : (w : SlidingWindow) (cells s index answers : List ℕ) �
 unfolding receivingAcks
 receive-acks-fine w cells s index answers well none =
     datagram-fine 4 enters s WellAcks (λ p. Unit) (λ c. tt)
-    (λ x p u h. calls.range-law (x .window) (x .cells) h (p .header .«packet_number») (p .header .«type_specific_payload») .1)
-    (λ x p h. range-never (x .window) (x .cells) (p .header .«packet_number») (p .header .«type_specific_payload») h)
+    (λ x p u h. range-law (x .window) (x .cells) h (p .header .«packet_number») (p .header .«type_specific_payload») .1)
+    (λ x p h. range-fine (x .window) (x .cells) h (p .header .«packet_number») (p .header .«type_specific_payload») .never)
     (window.wellFormed w cells) (acksOf w cells) index answers well none
