@@ -1,5 +1,6 @@
 -- A call that hands lent ack records on: `let answer = callee(ring, ..); convert(ring, answer)`. The callee gets all that the call got, for good, and the conversion the ring and the answer by value.
--- `relayed` makes the call's promise of theirs, whatever is passed beside the ring. A walk of the MIR then speaks of machine values alone, and of no promise: it leads from the two runs (`Chain`) to the call's.
+-- `relayed` makes the call's promise of theirs, whatever is passed beside the ring. A walk of the MIR then speaks of machine values alone, and of no promise:
+-- it leads from the two runs (`Chain`) to the call's.
 --     Others        what is passed beside the ring, with what is known of its types
 --     X, Y, h       the types of the callee's answer and of the flat one, and how the first is written as the second
 --     P, Z          what the callee promises, and the call
@@ -78,7 +79,8 @@ module _ (X Y : RattleType) (h : RingBuffer → X .Denot → Y .Denot) {M : Type
 
   goes-convert : Given 𝓤 H A → (g : RingBuffer) → Is G.the-row g (ringv g ∷ []) → (p : X .Denot) (v : Val) → ent 𝓤 (sem 𝓤 H A (X .own p (v ∷ []))) (Conversion .pre (to-convert g p v))
   goes-convert W g g-is p v =
-      qed W (‵ (X .own p (v ∷ [])) ∷ []) ∵ nothing ! $ move ! (1 ∷ 0 ∷ []) $ fjoin ! $ owned ! G.the-row (Is G.the-row) (LL.makes G.the-type G′.the-plain 𝓤 H A) g _ g-is $ fjoin ! $ nothing ! $ join ! $ frame ! $ done !
+      qed W (‵ (X .own p (v ∷ [])) ∷ []) ∵ nothing ! $ move ! (1 ∷ 0 ∷ []) $ fjoin ! $
+      owned ! G.the-row (Is G.the-row) (LL.makes G.the-type G′.the-plain 𝓤 H A) g _ g-is $ fjoin ! $ nothing ! $ join ! $ frame ! $ done !
 
 -- ---- the call
 pub record Others : Type 2 where
@@ -137,24 +139,40 @@ module _ (O : Others) where
             (monoR 𝓤 (sem 𝓤 H A (lasts (lent Y) κs a ws)) (fact-mono 𝓤 (P κs a p (atExit (lent X) κs a ws)) (Z κs a r (atExit (lent Y) κs a ws)) (turns κs a p r (atExit (lent X) κs a ws) er)))
             (exI 𝓤 (Left r) ws))
 
-        ends : (p : X .Denot) (w u : Val) → ent 𝓤 (sep 𝓤 (Conversion X Y h 𝓤 H A .post (to-convert X Y h 𝓤 H A (a .0) p w) u) (sep 𝓤 Living (Ensured p))) (H .⇛ (guard 𝓤 (Sound ty u) (Call .post to-callee u)))
+        abbrev Convert : Contract 𝓤
+        Convert = Conversion X Y h 𝓤 H A
+
+        -- what the conversion is handed, what is kept meanwhile, and what is to hold of its answer
+        abbrev to : X .Denot → Val → Convert .Ghost
+        to p w = to-convert X Y h 𝓤 H A (a .0) p w
+
+        abbrev Kept : X .Denot → SProp 𝓤
+        Kept p = sep 𝓤 Living (Ensured p)
+
+        abbrev Flattened : Val → SProp 𝓤
+        Flattened u = H .⇛ (guard 𝓤 (Sound ty u) (Call .post to-callee u))
+
+        abbrev Converted : X .Denot → Y .Denot → SProp 𝓤
+        Converted p r = ensured 𝓤 H A (converted X Y) (converted-says X Y h 𝓤 H A) tt (a .0, (p, tt)) tt r
+
+        ends : (p : X .Denot) (w u : Val) → ent 𝓤 (sep 𝓤 (Convert .post (to p w) u) (Kept p)) (Flattened u)
         ends p w u =
-            qed W (later (some (λ (r : Y .Denot). (‵ ftrue ⊛ ‵ (Y .own r (u ∷ []))) ⊛ raw (ensured 𝓤 H A (converted X Y) (converted-says X Y h 𝓤 H A) tt (a .0, (p, tt)) tt r))) ∷ raw Living ∷ raw (Ensured p) ∷ []) ∵
-            updating ! $ await ! tt $ pick ! (λ r. split ! $ move ! (1 ∷ []) $ use1 W (raw (fact 𝓤 (r ≡ h (a .0) p))) (converted-of X Y h 𝓤 H A (a .0) p r) $ heard ! (r ≡ h (a .0) p) (λ er.
+            qed W (later (some (λ (r : Y .Denot). (‵ ftrue ⊛ ‵ (Y .own r (u ∷ []))) ⊛ raw (Converted p r))) ∷ raw Living ∷ raw (Ensured p) ∷ []) ∵ updating ! $ await ! tt $ pick ! (λ r.
+            split ! $ move ! (1 ∷ []) $ use1 W (raw (fact 𝓤 (r ≡ h (a .0) p))) (converted-of X Y h 𝓤 H A (a .0) p r) $ heard ! (r ≡ h (a .0) p) (λ er.
             split ! $ drop ! $ peeks ! Y (Is Y) (shows 𝓤 H A Y) r (u ∷ []) (λ is-r. at-once ! $ check ! (y-typed r u is-r) $ updating ! $ at-once ! $
             show ! (λ (r′ : Y .Denot). sep 𝓤 (Back 𝓤 H A (lent Y .signature) (to-callee .0) u r′) (ensured 𝓤 H A (lent Y) (lent-says Y Z 𝓤) κs a tt r′)) r $
             move ! (1 ∷ 0 ∷ []) $ join ! $ frame ! $ by ! (left p r er))))
 
         abbrev Conv : Val → SProp 𝓤
-        Conv w = C kv (ringv (a .0) ∷ w ∷ []) (λ u. H .⇛ (guard 𝓤 (Sound ty u) (Call .post to-callee u)))
+        Conv w = C kv (ringv (a .0) ∷ w ∷ []) Flattened
 
         then : (w : Val) → ent 𝓤 (Callee .post to-callee w) (H .⇛ (guard 𝓤 (Sound tx w) (Conv w)))
         then w =
             qed W (later (some (λ (p : X .Denot). (raw Living ⊛ ‵ (X .own p (w ∷ []))) ⊛ raw (Ensured p))) ∷ []) ∵ updating ! $ await ! tt $ pick ! (λ p.
             split ! $ split ! $ move ! (1 ∷ []) $ peeks ! X (Is X) (shows 𝓤 H A X) p (w ∷ []) (λ is-p. at-once ! $ check ! (x-typed p w is-p) $ by !
-            (via 𝓤 (sep 𝓤 (Conversion X Y h 𝓤 H A .pre (to-convert X Y h 𝓤 H A (a .0) p w)) (sep 𝓤 Living (Ensured p))) (monoL 𝓤 (sep 𝓤 Living (Ensured p)) (goes-convert X Y h 𝓤 H A W (a .0) (are .0) p w))
-            (via 𝓤 (sep 𝓤 (C kv (ringv (a .0) ∷ w ∷ []) (Conversion X Y h 𝓤 H A .post (to-convert X Y h 𝓤 H A (a .0) p w))) (sep 𝓤 Living (Ensured p))) (monoL 𝓤 (sep 𝓤 Living (Ensured p)) (known-convert (to-convert X Y h 𝓤 H A (a .0) p w)))
-            (fm kv (ringv (a .0) ∷ w ∷ []) (Conversion X Y h 𝓤 H A .post (to-convert X Y h 𝓤 H A (a .0) p w)) (λ u. H .⇛ (guard 𝓤 (Sound ty u) (Call .post to-callee u))) (sep 𝓤 Living (Ensured p)) (ends p w))))))
+            (via 𝓤 (sep 𝓤 (Convert .pre (to p w)) (Kept p)) (monoL 𝓤 (Kept p) (goes-convert X Y h 𝓤 H A W (a .0) (are .0) p w))
+            (via 𝓤 (sep 𝓤 (C kv (ringv (a .0) ∷ w ∷ []) (Convert .post (to p w))) (Kept p)) (monoL 𝓤 (Kept p) (known-convert (to p w)))
+            (fm kv (ringv (a .0) ∷ w ∷ []) (Convert .post (to p w)) Flattened (Kept p) (ends p w))))))
 
         abbrev Entry : SProp 𝓤
         Entry = onEntry 𝓤 H A (lent X .signature) κs qs a (to-callee .0 .4)
@@ -162,10 +180,12 @@ module _ (O : Others) where
         chained : ent 𝓤 Entry (Chain 𝓤 H C kc kv tx ty (ringv (a .0)) (passed κs a) (Call .post to-callee))
         chained =
             via 𝓤 (Callee .pre to-callee) (via 𝓤 (sep 𝓤 (emp 𝓤) Entry) (emp∗ 𝓤 Entry) (comm∗ 𝓤 (emp 𝓤) Entry))
-            (via 𝓤 (C kc (passed κs a) (Callee .post to-callee)) (known-callee to-callee) (fm→monoC 𝓤 H (W .laws) C fm kc (passed κs a) (Callee .post to-callee) (λ w. H .⇛ (guard 𝓤 (Sound tx w) (Conv w))) then))
+            (via 𝓤 (C kc (passed κs a) (Callee .post to-callee)) (known-callee to-callee)
+            (fm→monoC 𝓤 H (W .laws) C fm kc (passed κs a) (Callee .post to-callee) (λ w. H .⇛ (guard 𝓤 (Sound tx w) (Conv w))) then))
 
       module _ (Λ : Loops 𝓤 H) (f : Fn) where
-        relayed : ((κs : Lfts (O .lifetimes)) (a : Denots (rows κs)) → Typed (mirs (rows κs)) (passed κs a) → (Kf : Val → SProp 𝓤) → ent 𝓤 (Chain 𝓤 H C kc kv tx ty (ringv (a .0)) (passed κs a) Kf) (WpFn 𝓤 H C Λ f (passed κs a) Kf))
+        relayed : ((κs : Lfts (O .lifetimes)) (a : Denots (rows κs)) → Typed (mirs (rows κs)) (passed κs a) → (Kf : Val → SProp 𝓤)
+            → ent 𝓤 (Chain 𝓤 H C kc kv tx ty (ringv (a .0)) (passed κs a) Kf) (WpFn 𝓤 H C Λ f (passed κs a) Kf))
             → Triple 𝓤 (WpFn 𝓤 H C Λ f) Call
         relayed walk y =
             via 𝓤 (onEntry 𝓤 H A (lent X .signature) (y .0 .0) (y .0 .1) (y .0 .3) (y .0 .4)) (fst∗ 𝓤 _ (emp 𝓤))
@@ -176,8 +196,10 @@ module _ (O : Others) where
 
 -- ---- a MIR shape, over the types of the two answers and the names of the two callees; and its walk
 abbrev pub Walked : (O : Others) → (Ty → Ty → Name → Name → Fn) → Type 2
-Walked O fn = (M : Type 1) (𝓤 : URA M) (H : Heap 𝓤) (A : Atoms 𝓤) (W : Given 𝓤 H A) (C : Calls 𝓤 H) (Λ : Loops 𝓤 H) → FmC 𝓤 H (W .laws) C → (tx ty : Ty) (kc kv : Name) (κs : Lfts (O .lifetimes)) (a : Denots (rows O κs))
-    → Typed (mirs (rows O κs)) (passed O κs a) → (Kf : Val → SProp 𝓤) → ent 𝓤 (Chain 𝓤 H C kc kv tx ty (ringv (a .0)) (passed O κs a) Kf) (WpFn 𝓤 H C Λ (fn tx ty kc kv) (passed O κs a) Kf)
+Walked O fn =
+    (M : Type 1) (𝓤 : URA M) (H : Heap 𝓤) (A : Atoms 𝓤) (W : Given 𝓤 H A) (C : Calls 𝓤 H) (Λ : Loops 𝓤 H) → FmC 𝓤 H (W .laws) C
+    → (tx ty : Ty) (kc kv : Name) (κs : Lfts (O .lifetimes)) (a : Denots (rows O κs)) → Typed (mirs (rows O κs)) (passed O κs a) → (Kf : Val → SProp 𝓤)
+    → ent 𝓤 (Chain 𝓤 H C kc kv tx ty (ringv (a .0)) (passed O κs a) Kf) (WpFn 𝓤 H C Λ (fn tx ty kc kv) (passed O κs a) Kf)
 
 -- a call of a shape: its two types, declared as an enum and as a struct, and its two promises
 pub record Handed : Type 3 where

@@ -34,8 +34,8 @@ use Rattle.ring_buffer.proofs.Record.{R, thin, mach, ringv}
 use Rattle.ring_buffer.proofs.AckData as T
 use Rattle.ring_buffer.proofs.AckData.Laws as T′
 use Rattle.ring_buffer.proofs.RingBuffer.Laws as G′
-use Rattle.flat.specs.RingAnswers.{flat}
-use Rattle.bluefin_c.proofs.RingFlat.{flat-leaves}
+use Rattle.flat.specs.Ring.{flat}
+use Rattle.flat.proofs.Laws.{flat-leaves}
 use Rattle.bluefin_c.proofs.Lent.{Others, Walked, Handed, Chain, Answered, Flat, passed}
 
 -- a local, a local read whole, and the type of a lent slice of ack records
@@ -82,8 +82,10 @@ bare-walk M 𝓤 H A W C Λ fm tx ty kc kv κs a ok Kf =
     let s : Val = sliceVal (a .1 .0 .ptr) (length (a .1 .0 .now)) in
     qed W (raw (Chain 𝓤 H C kc kv tx ty (ringv (a .0)) (passed bare-others κs a) Kf) ∷ []) ∵ enters ! C Λ (bare tx ty kc kv) (passed bare-others κs a) Kf ok (λ bs.
     assigns ! (addr ! (from ! (fld ! refl (hop ! (look-in ! 5 (sub ! 0 refl (whole !))) (stop !))))) (from ! (stop !)) (init ! 9 refl (tt, tt)) $
-    assigns ! (agg ! (and-then ! (loads ! 9 refl) (and-then ! (load ! (from ! (fld ! refl (stop !))) (look-in ! 5 (sub ! 1 refl (whole !)))) (no-more !)))) (from ! (stop !)) (init ! 11 refl (tt, ok .1 .0 .1)) $
-    calls ! fm (Answered 𝓤 H C kv tx ty (ringv (a .0)) Kf) (and-then ! (loads ! 3 refl) (and-then ! (loads ! 11 refl) (no-more !))) (λ w. await ! tt $ learn ! (λ w-ok. land ! (from ! (stop !)) (init ! 7 refl w-ok) $
+    assigns ! (agg ! (and-then ! (loads ! 9 refl) (and-then ! (load ! (from ! (fld ! refl (stop !))) (look-in ! 5 (sub ! 1 refl (whole !)))) (no-more !)))) (from ! (stop !))
+    (init ! 11 refl (tt, ok .1 .0 .1)) $
+    calls ! fm (Answered 𝓤 H C kv tx ty (ringv (a .0)) Kf) (and-then ! (loads ! 3 refl) (and-then ! (loads ! 11 refl) (no-more !))) (λ w.
+    await ! tt $ learn ! (λ w-ok. land ! (from ! (stop !)) (init ! 7 refl w-ok) $
     calls ! fm (Flat 𝓤 ty Kf) (and-then ! (loads ! 3 refl) (and-then ! (loads ! 7 refl) (no-more !))) (λ u. await ! tt $ learn ! (λ u-ok. land ! (from ! (stop !)) (init ! 1 refl u-ok) $
     leaves ! (bare tx ty kc kv .locals) bs u (ringv (a .0) ∷ s ∷ w ∷ vptr (a .1 .0 .ptr .0) (a .1 .0 .ptr .1) ∷ s ∷ []) tt $ done !)))))
 
@@ -113,8 +115,10 @@ recorded-walk M 𝓤 H A W C Λ fm tx ty kc kv κs a ok Kf =
     let s : Val = sliceVal (a .1 .0 .ptr) (length (a .1 .0 .now)) in
     qed W (raw (Chain 𝓤 H C kc kv tx ty (ringv (a .0)) (passed recorded-others κs a) Kf) ∷ []) ∵ enters ! C Λ (recorded tx ty kc kv) (passed recorded-others κs a) Kf ok (λ bs.
     assigns ! (addr ! (from ! (fld ! refl (hop ! (look-in ! 5 (sub ! 0 refl (whole !))) (stop !))))) (from ! (stop !)) (init ! 11 refl (tt, tt)) $
-    assigns ! (agg ! (and-then ! (loads ! 11 refl) (and-then ! (load ! (from ! (fld ! refl (stop !))) (look-in ! 5 (sub ! 1 refl (whole !)))) (no-more !)))) (from ! (stop !)) (init ! 13 refl (tt, ok .1 .0 .1)) $
-    calls ! fm (Answered 𝓤 H C kv tx ty (ringv (a .0)) Kf) (and-then ! (loads ! 3 refl) (and-then ! (loads ! 13 refl) (and-then ! (loads ! 7 refl) (no-more !)))) (λ w. await ! tt $ learn ! (λ w-ok.
+    assigns ! (agg ! (and-then ! (loads ! 11 refl) (and-then ! (load ! (from ! (fld ! refl (stop !))) (look-in ! 5 (sub ! 1 refl (whole !)))) (no-more !)))) (from ! (stop !))
+    (init ! 13 refl (tt, ok .1 .0 .1)) $
+    calls ! fm (Answered 𝓤 H C kv tx ty (ringv (a .0)) Kf) (and-then ! (loads ! 3 refl) (and-then ! (loads ! 13 refl) (and-then ! (loads ! 7 refl) (no-more !)))) (λ w.
+    await ! tt $ learn ! (λ w-ok.
     land ! (from ! (stop !)) (init ! 9 refl w-ok) $
     calls ! fm (Flat 𝓤 ty Kf) (and-then ! (loads ! 3 refl) (and-then ! (loads ! 9 refl) (no-more !))) (λ u. await ! tt $ learn ! (λ u-ok. land ! (from ! (stop !)) (init ! 1 refl u-ok) $
     leaves ! (recorded tx ty kc kv .locals) bs u (ringv (a .0) ∷ s ∷ mach (a .1 .1 .0) ∷ w ∷ vptr (a .1 .0 .ptr .0) (a .1 .0 .ptr .1) ∷ s ∷ []) tt $ done !)))))
@@ -143,7 +147,8 @@ shared tx ty kc kv = record {
 pub shared-walk : Walked shared-others shared
 shared-walk M 𝓤 H A W C Λ fm tx ty kc kv κs a ok Kf =
     qed W (raw (Chain 𝓤 H C kc kv tx ty (ringv (a .0)) (passed shared-others κs a) Kf) ∷ []) ∵ enters ! C Λ (shared tx ty kc kv) (passed shared-others κs a) Kf ok (λ bs.
-    calls ! fm (Answered 𝓤 H C kv tx ty (ringv (a .0)) Kf) (and-then ! (loads ! 3 refl) (and-then ! (loads ! 5 refl) (no-more !))) (λ w. await ! tt $ learn ! (λ w-ok. land ! (from ! (stop !)) (init ! 7 refl w-ok) $
+    calls ! fm (Answered 𝓤 H C kv tx ty (ringv (a .0)) Kf) (and-then ! (loads ! 3 refl) (and-then ! (loads ! 5 refl) (no-more !))) (λ w.
+    await ! tt $ learn ! (λ w-ok. land ! (from ! (stop !)) (init ! 7 refl w-ok) $
     calls ! fm (Flat 𝓤 ty Kf) (and-then ! (loads ! 3 refl) (and-then ! (loads ! 7 refl) (no-more !))) (λ u. await ! tt $ learn ! (λ u-ok. land ! (from ! (stop !)) (init ! 1 refl u-ok) $
     leaves ! (shared tx ty kc kv .locals) bs u (ringv (a .0) ∷ sliceVal (a .1 .0 .ptr) (length (a .1 .0 .now)) ∷ w ∷ []) tt $ done !)))))
 
@@ -156,7 +161,19 @@ packing-others = record {
   kept = (yes, (yes, (yes, (yes, (yes, tt)))));
   spell = λ κs. (slice-vals, (uint-vals w64, (uint-vals w32, (uint-vals w32, (slice-vals, tt)))));
   tell = λ κs. (mut-slice-tells (named 0) (κs .0) R, (uint-tells w64, (uint-tells w32, (uint-tells w32, (mut-slice-tells (named 1) (κs .1 .0) u8, tt)))));
-  lawful = λ 𝓤 H A W κs. (mut-slice-lawful 𝓤 H A W (named 0) (κs .0) R, (uint-lawful 𝓤 H A W w64, (uint-lawful 𝓤 H A W w32, (uint-lawful 𝓤 H A W w32, (mut-slice-lawful 𝓤 H A W (named 1) (κs .1 .0) u8, tt)))));
+  lawful = λ 𝓤 H A W κs. (
+    mut-slice-lawful 𝓤 H A W (named 0) (κs .0) R,
+    (
+      uint-lawful 𝓤 H A W w64,
+      (
+        uint-lawful 𝓤 H A W w32,
+        (
+          uint-lawful 𝓤 H A W w32,
+          (mut-slice-lawful 𝓤 H A W (named 1) (κs .1 .0) u8, tt),
+        ),
+      ),
+    ),
+  );
 }
 
 abbrev pub packing : Ty → Ty → Name → Name → Fn
@@ -166,7 +183,8 @@ packing tx ty kc kv =
       lifetimes = 2;
       outlives = [];
       params = 6;
-      locals = val ty ∷ val G′.mir ∷ val records ∷ val (tyInt w64) ∷ val (tyInt w32) ∷ val (tyInt w32) ∷ val (sliceTy (tyRef (named 1) mut (tyInt w8))) ∷ val tx ∷ val thin ∷ val (sliceTy thin) ∷ val bytes ∷ val (sliceTy bytes) ∷ [];
+      locals = val ty ∷ val G′.mir ∷ val records ∷ val (tyInt w64) ∷ val (tyInt w32) ∷ val (tyInt w32) ∷ val (sliceTy (tyRef (named 1) mut (tyInt w8)))
+          ∷ val tx ∷ val thin ∷ val (sliceTy thin) ∷ val bytes ∷ val (sliceTy bytes) ∷ [];
       body = anew 2 8 9 T′.mir (anew 6 10 11 (tyInt w8) (relay kc kv (all 1 ∷ all 9 ∷ all 3 ∷ all 4 ∷ all 5 ∷ all 11 ∷ []) 7));
     }
 
@@ -177,18 +195,24 @@ packing-walk M 𝓤 H A W C Λ fm tx ty kc kv κs a ok Kf =
     let o : Val = sliceVal (out .ptr) (length (out .now)) in
     qed W (raw (Chain 𝓤 H C kc kv tx ty (ringv (a .0)) (passed packing-others κs a) Kf) ∷ []) ∵ enters ! C Λ (packing tx ty kc kv) (passed packing-others κs a) Kf ok (λ bs.
     assigns ! (addr ! (from ! (fld ! refl (hop ! (look-in ! 5 (sub ! 0 refl (whole !))) (stop !))))) (from ! (stop !)) (init ! 17 refl (tt, tt)) $
-    assigns ! (agg ! (and-then ! (loads ! 17 refl) (and-then ! (load ! (from ! (fld ! refl (stop !))) (look-in ! 5 (sub ! 1 refl (whole !)))) (no-more !)))) (from ! (stop !)) (init ! 19 refl (tt, ok .1 .0 .1)) $
+    assigns ! (agg ! (and-then ! (loads ! 17 refl) (and-then ! (load ! (from ! (fld ! refl (stop !))) (look-in ! 5 (sub ! 1 refl (whole !)))) (no-more !)))) (from ! (stop !))
+    (init ! 19 refl (tt, ok .1 .0 .1)) $
     assigns ! (addr ! (from ! (fld ! refl (hop ! (look-in ! 13 (sub ! 0 refl (whole !))) (stop !))))) (from ! (stop !)) (init ! 21 refl (tt, tt)) $
-    assigns ! (agg ! (and-then ! (loads ! 21 refl) (and-then ! (load ! (from ! (fld ! refl (stop !))) (look-in ! 13 (sub ! 1 refl (whole !)))) (no-more !)))) (from ! (stop !)) (init ! 23 refl (tt, ok .1 .1 .1 .1 .1 .0 .1)) $
+    assigns ! (agg ! (and-then ! (loads ! 21 refl) (and-then ! (load ! (from ! (fld ! refl (stop !))) (look-in ! 13 (sub ! 1 refl (whole !)))) (no-more !)))) (from ! (stop !))
+    (init ! 23 refl (tt, ok .1 .1 .1 .1 .1 .0 .1)) $
     calls ! fm (Answered 𝓤 H C kv tx ty (ringv (a .0)) Kf)
-    (and-then ! (loads ! 3 refl) (and-then ! (loads ! 19 refl) (and-then ! (loads ! 7 refl) (and-then ! (loads ! 9 refl) (and-then ! (loads ! 11 refl) (and-then ! (loads ! 23 refl) (no-more !))))))) (λ w. await ! tt $ learn ! (λ w-ok.
+    (and-then ! (loads ! 3 refl) (and-then ! (loads ! 19 refl) (and-then ! (loads ! 7 refl) (and-then ! (loads ! 9 refl)
+    (and-then ! (loads ! 11 refl) (and-then ! (loads ! 23 refl) (no-more !))))))) (λ w.
+    await ! tt $ learn ! (λ w-ok.
     land ! (from ! (stop !)) (init ! 15 refl w-ok) $
     calls ! fm (Flat 𝓤 ty Kf) (and-then ! (loads ! 3 refl) (and-then ! (loads ! 15 refl) (no-more !))) (λ u. await ! tt $ learn ! (λ u-ok. land ! (from ! (stop !)) (init ! 1 refl u-ok) $
     leaves ! (packing tx ty kc kv .locals) bs u
-    (ringv (a .0) ∷ s ∷ vint w64 (a .1 .1 .0) ∷ vint w32 (a .1 .1 .1 .0) ∷ vint w32 (a .1 .1 .1 .1 .0) ∷ o ∷ w ∷ vptr (a .1 .0 .ptr .0) (a .1 .0 .ptr .1) ∷ s ∷ vptr (out .ptr .0) (out .ptr .1) ∷ o ∷ []) tt $ done !)))))
+    (ringv (a .0) ∷ s ∷ vint w64 (a .1 .1 .0) ∷ vint w32 (a .1 .1 .1 .0) ∷ vint w32 (a .1 .1 .1 .1 .0)
+    ∷ o ∷ w ∷ vptr (a .1 .0 .ptr .0) (a .1 .0 .ptr .1) ∷ s ∷ vptr (out .ptr .0) (out .ptr .1) ∷ o ∷ []) tt $ done !)))))
 
 -- ---- the ring's calls on records lent for good: what the callee says, the ring that it hands back, how both are written flat, and what the call comes to
-module _ {S : Type 0} (X : ED.Declared) (X′ : EL.Laws X) (few : Few (ED.shape X)) (Y : SD.Declared) (Y′ : LL.Laws Y) (says-x : X .D → Said S) (after : RingBuffer → X .D → RingBuffer) (f : RingBuffer → Said S → Y .D) where
+module _ {S : Type 0} (X : ED.Declared) (X′ : EL.Laws X) (few : Few (ED.shape X)) (Y : SD.Declared) (Y′ : LL.Laws Y)
+    (says-x : X .D → Said S) (after : RingBuffer → X .D → RingBuffer) (f : RingBuffer → Said S → Y .D) where
   abbrev pub bare-call : (RingBuffer → List AckData → Outcome S) → Handed
   bare-call F = record {
     others = bare-others;

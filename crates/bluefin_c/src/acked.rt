@@ -4,11 +4,7 @@ use flat::acked::Inserted;
 use flat::acked::Run;
 use window::SlidingWindow;
 ghost use mathlib.Core.Path.{_≡_};
-ghost use mathlib.Core.List.{List};
-ghost use Prim.Native.Nat.{ℕ};
 ghost use Rattle.window.specs.Window.{window as windowOf, insertPacketNumber, insertRange, consume as consuming};
-ghost use Rattle.flat.specs.declared.acked.Inserted.{Inserted};
-ghost use Rattle.flat.specs.declared.acked.Run.{Run};
 ghost use Rattle.flat.specs.Acked.{insertedOf, runOf, flatOutcome};
 
 #[no_mangle]
@@ -24,7 +20,7 @@ pub extern "C" fn bluefin_window_insert_packet_number(
     cells: &mut [u64],
     n: u64,
 ) -> Inserted
-    ensures { λ r. ⌜ _≡_ {A = Inserted × List ℕ} (r, now (cells .exit)) (flatOutcome insertedOf (insertPacketNumber w (now (cells .entry)) n)) ⌝ }
+    ensures { λ r. ⌜ (r, now (cells .exit)) ≡ flatOutcome insertedOf (insertPacketNumber w (now (cells .entry)) n) ⌝ }
 {
     flat::acked::inserted_of(w, window::insert_packet_number(w, cells, n))
 }
@@ -36,14 +32,15 @@ pub extern "C" fn bluefin_window_insert_range(
     base: u64,
     count: u16,
 ) -> Inserted
-    ensures { λ r. ⌜ _≡_ {A = Inserted × List ℕ} (r, now (cells .exit)) (flatOutcome insertedOf (insertRange w (now (cells .entry)) base count)) ⌝ }
+    ensures { λ r. ⌜ (r, now (cells .exit)) ≡ flatOutcome insertedOf (insertRange w (now (cells .entry)) base count) ⌝ }
 {
     flat::acked::range_inserted_of(w, window::insert_range(w, cells, base, count))
 }
 
 #[no_mangle]
 pub extern "C" fn bluefin_window_consume(w: SlidingWindow, cells: &mut [u64]) -> Run
-    ensures { λ r. ⌜ _≡_ {A = Run × List ℕ} (r, now (cells .exit)) (flatOutcome runOf (consuming w (now (cells .entry)))) ⌝ }
+    ensures { λ r. ⌜ (r, now (cells .exit))
+        ≡ flatOutcome runOf (consuming w (now (cells .entry))) ⌝ }
 {
     flat::acked::run_of(w, window::consume(w, cells))
 }

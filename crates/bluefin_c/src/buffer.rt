@@ -5,16 +5,10 @@ use flat::buffer::ConsumedBytes;
 use flat::buffer::Started;
 use ordered_bytes::OrderedBytes;
 ghost use mathlib.Core.Path.{_≡_};
-ghost use mathlib.Core.Bool.{Bool};
-ghost use mathlib.Core.List.{List};
-ghost use Prim.Native.Nat.{ℕ};
 ghost use Rattle.refusal.specs.Said.{refusalIn};
-ghost use Rattle.ordered_bytes.specs.Buffer.{Buffer, bufferOf};
+ghost use Rattle.ordered_bytes.specs.Buffer.{bufferOf};
 ghost use Rattle.ordered_bytes.specs.Calls.{creating, starting, accepting, peeking, consuming, consumingBytes};
-ghost use Rattle.flat.specs.declared.buffer.Started.{Started};
-ghost use Rattle.flat.specs.declared.buffer.Consumed.{Consumed};
-ghost use Rattle.flat.specs.declared.buffer.ConsumedBytes.{ConsumedBytes};
-ghost use Rattle.flat.specs.Buffers.{startedOf, flatCreation, flatAcceptance, flatConsumption, flatPieces};
+ghost use Rattle.flat.specs.Buffer.{startedOf, flatCreation, flatAcceptance, flatConsumption, flatPieces};
 
 #[no_mangle]
 pub extern "C" fn bluefin_ordered_bytes_new(
@@ -24,7 +18,8 @@ pub extern "C" fn bluefin_ordered_bytes_new(
     lengths: &mut [u32],
     store: &[u8],
 ) -> Started
-    ensures { λ r. ⌜ _≡_ {A = Started × List Bool × List ℕ} (r, now (marks .exit), now (lengths .exit)) (flatCreation (creating «slot_width» «start_packet_number» (now (marks .entry)) (now (lengths .entry)) (now (store .entry)))) ⌝ }
+    ensures { λ r. ⌜ (r, now (marks .exit), now (lengths .exit))
+        ≡ flatCreation (creating «slot_width» «start_packet_number» (now (marks .entry)) (now (lengths .entry)) (now (store .entry))) ⌝ }
 {
     flat::buffer::created_of(ordered_bytes::new(
         slot_width,
@@ -60,7 +55,8 @@ pub extern "C" fn bluefin_ordered_bytes_buffer_in_packet(
     lengths: &mut [u32],
     store: &mut [u8],
 ) -> u8
-    ensures { λ r. ⌜ _≡_ {A = ℕ × Buffer} (r, bufferOf o (now (marks .exit)) (now (lengths .exit)) (now (store .exit))) (flatAcceptance (accepting (bufferOf o (now (marks .entry)) (now (lengths .entry)) (now (store .entry))) n (now (payload .entry)))) ⌝ }
+    ensures { λ r. ⌜ (r, bufferOf o (now (marks .exit)) (now (lengths .exit)) (now (store .exit)))
+        ≡ flatAcceptance (accepting (bufferOf o (now (marks .entry)) (now (lengths .entry)) (now (store .entry))) n (now (payload .entry))) ⌝ }
 {
     flat::buffer::accepted_of(ordered_bytes::buffer_in_packet(o, n, payload, marks, lengths, store))
 }
@@ -86,7 +82,8 @@ pub extern "C" fn bluefin_ordered_bytes_consume(
     lengths: &mut [u32],
     store: &mut [u8],
 ) -> Consumed
-    ensures { λ r. ⌜ _≡_ {A = Consumed × Buffer × List ℕ} (r, bufferOf (r .state) (now (marks .exit)) (now (lengths .exit)) (now (store .exit)), now (buf .exit)) (flatConsumption (consuming (bufferOf o (now (marks .entry)) (now (lengths .entry)) (now (store .entry))) len (now (buf .entry)))) ⌝ }
+    ensures { λ r. ⌜ (r, bufferOf (r .state) (now (marks .exit)) (now (lengths .exit)) (now (store .exit)), now (buf .exit))
+        ≡ flatConsumption (consuming (bufferOf o (now (marks .entry)) (now (lengths .entry)) (now (store .entry))) len (now (buf .entry))) ⌝ }
 {
     flat::buffer::consumed_of(ordered_bytes::consume(o, len, buf, marks, lengths, store))
 }
@@ -101,7 +98,8 @@ pub extern "C" fn bluefin_ordered_bytes_consume_bytes(
     lengths: &mut [u32],
     store: &mut [u8],
 ) -> ConsumedBytes
-    ensures { λ r. ⌜ _≡_ {A = ConsumedBytes × Buffer × List ℕ × List ℕ} (r, bufferOf (r .state) (now (marks .exit)) (now (lengths .exit)) (now (store .exit)), now (buf .exit), now (list .exit)) (flatPieces (consumingBytes (bufferOf o (now (marks .entry)) (now (lengths .entry)) (now (store .entry))) limit (now (buf .entry)) (now (list .entry)))) ⌝ }
+    ensures { λ r. ⌜ (r, bufferOf (r .state) (now (marks .exit)) (now (lengths .exit)) (now (store .exit)), now (buf .exit), now (list .exit))
+        ≡ flatPieces (consumingBytes (bufferOf o (now (marks .entry)) (now (lengths .entry)) (now (store .entry))) limit (now (buf .entry)) (now (list .entry))) ⌝ }
 {
     flat::buffer::consumed_bytes_of(ordered_bytes::consume_bytes(
         o,

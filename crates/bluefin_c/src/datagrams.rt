@@ -5,12 +5,8 @@ use flat::packets::Parsed;
 use ordered_bytes::OrderedBytes;
 use window::SlidingWindow;
 ghost use mathlib.Core.Path.{_≡_};
-ghost use mathlib.Core.List.{List};
-ghost use Prim.Native.Nat.{ℕ};
-ghost use Rattle.ordered_bytes.specs.Buffer.{Buffer, bufferOf};
+ghost use Rattle.ordered_bytes.specs.Buffer.{bufferOf};
 ghost use Rattle.receive.specs.Datagram.{receiving, receivingAcks};
-ghost use Rattle.flat.specs.declared.packets.Parsed.{Parsed};
-ghost use Rattle.flat.specs.declared.datagrams.AcksReceived.{AcksReceived};
 ghost use Rattle.flat.specs.Datagrams.{flatReception, flatAcksReception};
 
 #[no_mangle]
@@ -23,7 +19,8 @@ pub extern "C" fn bluefin_receive(
     lengths: &mut [u32],
     store: &mut [u8],
 ) -> Parsed
-    ensures { λ r. ⌜ _≡_ {A = Parsed × List ℕ × List ℕ × Buffer} (r, now (index .exit), now (answers .exit), bufferOf o (now (marks .exit)) (now (lengths .exit)) (now (store .exit))) (flatReception (receiving (bufferOf o (now (marks .entry)) (now (lengths .entry)) (now (store .entry))) (now (datagram .entry)) (now (index .entry)) (now (answers .entry)))) ⌝ }
+    ensures { λ r. ⌜ (r, now (index .exit), now (answers .exit), bufferOf o (now (marks .exit)) (now (lengths .exit)) (now (store .exit)))
+        ≡ flatReception (receiving (bufferOf o (now (marks .entry)) (now (lengths .entry)) (now (store .entry))) (now (datagram .entry)) (now (index .entry)) (now (answers .entry))) ⌝ }
 {
     flat::packets::indexed_of(receive::receive(o, datagram, index, answers, marks, lengths, store))
 }
@@ -36,7 +33,8 @@ pub extern "C" fn bluefin_receive_acks(
     index: &mut [u32],
     answers: &mut [u8],
 ) -> AcksReceived
-    ensures { λ r. ⌜ _≡_ {A = AcksReceived × List ℕ × List ℕ × List ℕ} (r, now (cells .exit), now (index .exit), now (answers .exit)) (flatAcksReception (receivingAcks w (now (cells .entry)) (now (datagram .entry)) (now (index .entry)) (now (answers .entry)))) ⌝ }
+    ensures { λ r. ⌜ (r, now (cells .exit), now (index .exit), now (answers .exit))
+        ≡ flatAcksReception (receivingAcks w (now (cells .entry)) (now (datagram .entry)) (now (index .entry)) (now (answers .entry))) ⌝ }
 {
     flat::datagrams::acks_received_of(receive::receive_acks(w, cells, datagram, index, answers))
 }

@@ -7,16 +7,14 @@ use header::BluefinHeader;
 use header::HeaderWritten;
 use refusal::Refusal;
 ghost use mathlib.Core.Path.{_≡_};
-ghost use mathlib.Core.List.{List};
-ghost use Prim.Native.Nat.{ℕ};
 ghost use Rattle.header.specs.Header.{serialisesInto, deserialises};
-ghost use Rattle.flat.specs.declared.headers.Written.{Written};
 ghost use Rattle.flat.specs.Answers.{firstBy};
 ghost use Rattle.flat.specs.Headers.{headerIn, unlessUnknown, writtenOf, headerReadOf};
 
 #[no_mangle]
 pub extern "C" fn bluefin_header_serialise_into(header: Header, buf: &mut [u8]) -> Written
-    ensures { λ r. ⌜ _≡_ {A = Written × List ℕ} (r, now (buf .exit)) (firstBy writtenOf (unlessUnknown header (now (buf .entry)) (serialisesInto (headerIn header) (now (buf .entry))))) ⌝ }
+    ensures { λ r. ⌜ (r, now (buf .exit))
+        ≡ firstBy writtenOf (unlessUnknown header (now (buf .entry)) (serialisesInto (headerIn header) (now (buf .entry)))) ⌝ }
 {
     if header.type_field >= 7 {
         return flat::headers::written_of(HeaderWritten::Refused(Refusal::UnknownType));

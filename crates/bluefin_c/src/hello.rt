@@ -4,7 +4,7 @@ use flat::headers::Header;
 ghost use mathlib.Core.Path.{_≡_};
 ghost use Rattle.net.specs.Hello.{isHello, isClientAck};
 ghost use Rattle.flat.specs.Headers.{headerIn};
-ghost use Rattle.flat.specs.Hosts.{hostIn};
+ghost use Rattle.flat.specs.Hello.{hostIn};
 
 // A type number above 6 counts as the last type here: neither test asks for that one.
 #[no_mangle]

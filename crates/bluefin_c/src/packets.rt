@@ -7,12 +7,8 @@ use flat::packets::Parsed;
 use header::HeaderWritten;
 use refusal::Refusal;
 ghost use mathlib.Core.Path.{_≡_};
-ghost use mathlib.Core.List.{List};
-ghost use Prim.Native.Nat.{ℕ};
 ghost use Rattle.packet.specs.Packet.{serialisesInto, deserialises};
 ghost use Rattle.packet.specs.Datagram.{parses, indexes};
-ghost use Rattle.flat.specs.declared.headers.Written.{Written};
-ghost use Rattle.flat.specs.declared.packets.Parsed.{Parsed};
 ghost use Rattle.flat.specs.Answers.{firstBy};
 ghost use Rattle.flat.specs.Headers.{headerIn, unlessUnknown, writtenOf, headerReadOf};
 ghost use Rattle.flat.specs.Packets.{parsedOf, flatIndex};
@@ -23,7 +19,8 @@ pub extern "C" fn bluefin_packet_serialise_into(
     payload: &[u8],
     buf: &mut [u8],
 ) -> Written
-    ensures { λ r. ⌜ _≡_ {A = Written × List ℕ} (r, now (buf .exit)) (firstBy writtenOf (unlessUnknown header (now (buf .entry)) (serialisesInto (record { header = headerIn header; payload = now (payload .entry) }) (now (buf .entry))))) ⌝ }
+    ensures { λ r. ⌜ (r, now (buf .exit))
+        ≡ firstBy writtenOf (unlessUnknown header (now (buf .entry)) (serialisesInto (record { header = headerIn header; payload = now (payload .entry) }) (now (buf .entry)))) ⌝ }
 {
     if header.type_field >= 7 {
         return flat::headers::written_of(HeaderWritten::Refused(Refusal::UnknownType));
@@ -44,14 +41,14 @@ pub extern "C" fn bluefin_packet_deserialise(bytes: &[u8]) -> HeaderRead
 
 #[no_mangle]
 pub extern "C" fn bluefin_from_bytes(datagram: &[u8], index: &mut [u32]) -> Parsed
-    ensures { λ r. ⌜ _≡_ {A = Parsed × List ℕ} (r, now (index .exit)) (firstBy parsedOf (parses (now (datagram .entry)) (now (index .entry)))) ⌝ }
+    ensures { λ r. ⌜ (r, now (index .exit)) ≡ firstBy parsedOf (parses (now (datagram .entry)) (now (index .entry))) ⌝ }
 {
     flat::packets::parsed_of(packet::from_bytes(datagram, index))
 }
 
 #[no_mangle]
 pub extern "C" fn bluefin_from_bytes_into(datagram: &[u8], index: &mut [u32]) -> Parsed
-    ensures { λ r. ⌜ _≡_ {A = Parsed × List ℕ} (r, now (index .exit)) (flatIndex (indexes (now (datagram .entry)) (now (index .entry)))) ⌝ }
+    ensures { λ r. ⌜ (r, now (index .exit)) ≡ flatIndex (indexes (now (datagram .entry)) (now (index .entry))) ⌝ }
 {
     flat::packets::indexed_of(packet::index_packets(datagram, index))
 }

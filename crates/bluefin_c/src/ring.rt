@@ -8,16 +8,9 @@ use flat::ring::Pushed;
 use ring_buffer::AckData;
 use ring_buffer::RingBuffer;
 ghost use mathlib.Core.Path.{_≡_};
-ghost use mathlib.Core.List.{List};
-ghost use Prim.Native.Nat.{ℕ};
 ghost use Rattle.ring_buffer.specs.Ring.{fresh, pushBack, pushFront, popFront, front, clear};
-ghost use Rattle.ring_buffer.specs.declared.AckData.{AckData};
 ghost use Rattle.writer.specs.Acks.{consumesAcks};
-ghost use Rattle.flat.specs.declared.ring.Pushed.{Pushed};
-ghost use Rattle.flat.specs.declared.ring.Popped.{Popped};
-ghost use Rattle.flat.specs.declared.ring.Cleared.{Cleared};
-ghost use Rattle.flat.specs.declared.ring.AcksPacked.{AcksPacked};
-ghost use Rattle.flat.specs.RingAnswers.{flat, pushedOf, poppedOf, clearedOf, flatAcks};
+ghost use Rattle.flat.specs.Ring.{flat, pushedOf, poppedOf, clearedOf, flatAcks};
 
 #[no_mangle]
 pub extern "C" fn bluefin_ring_new() -> RingBuffer
@@ -32,7 +25,7 @@ pub extern "C" fn bluefin_ring_push_back(
     records: &mut [AckData],
     a: AckData,
 ) -> Pushed
-    ensures { λ r. ⌜ _≡_ {A = Pushed × List AckData} (r, now (records .exit)) (flat pushedOf (pushBack ring (now (records .entry)) a)) ⌝ }
+    ensures { λ r. ⌜ (r, now (records .exit)) ≡ flat pushedOf (pushBack ring (now (records .entry)) a) ⌝ }
 {
     let answer = ring_buffer::push_back(ring, records, a);
     flat::ring::pushed_of(ring, answer)
@@ -44,7 +37,7 @@ pub extern "C" fn bluefin_ring_push_front(
     records: &mut [AckData],
     a: AckData,
 ) -> Pushed
-    ensures { λ r. ⌜ _≡_ {A = Pushed × List AckData} (r, now (records .exit)) (flat pushedOf (pushFront ring (now (records .entry)) a)) ⌝ }
+    ensures { λ r. ⌜ (r, now (records .exit)) ≡ flat pushedOf (pushFront ring (now (records .entry)) a) ⌝ }
 {
     let answer = ring_buffer::push_front(ring, records, a);
     flat::ring::pushed_of(ring, answer)
@@ -52,7 +45,7 @@ pub extern "C" fn bluefin_ring_push_front(
 
 #[no_mangle]
 pub extern "C" fn bluefin_ring_pop_front(ring: RingBuffer, records: &mut [AckData]) -> Popped
-    ensures { λ r. ⌜ _≡_ {A = Popped × List AckData} (r, now (records .exit)) (flat poppedOf (popFront ring (now (records .entry)))) ⌝ }
+    ensures { λ r. ⌜ (r, now (records .exit)) ≡ flat poppedOf (popFront ring (now (records .entry))) ⌝ }
 {
     let answer = ring_buffer::pop_front(ring, records);
     flat::ring::popped_of(ring, answer)
@@ -68,7 +61,7 @@ pub extern "C" fn bluefin_ring_front(ring: RingBuffer, records: &[AckData]) -> P
 
 #[no_mangle]
 pub extern "C" fn bluefin_ring_clear(ring: RingBuffer, records: &mut [AckData]) -> Cleared
-    ensures { λ r. ⌜ _≡_ {A = Cleared × List AckData} (r, now (records .exit)) (flat clearedOf (clear ring (now (records .entry)))) ⌝ }
+    ensures { λ r. ⌜ (r, now (records .exit)) ≡ flat clearedOf (clear ring (now (records .entry))) ⌝ }
 {
     let answer = ring_buffer::clear(ring, records);
     flat::ring::cleared_of(ring, answer)
@@ -83,7 +76,8 @@ pub extern "C" fn bluefin_consume_acks_into(
     dst_conn_id: u32,
     out: &mut [u8],
 ) -> AcksPacked
-    ensures { λ r. ⌜ _≡_ {A = AcksPacked × List AckData × List ℕ} (r, now (records .exit), now (out .exit)) (flatAcks (consumesAcks ring (now (records .entry)) used «src_conn_id» «dst_conn_id» (now (out .entry)))) ⌝ }
+    ensures { λ r. ⌜ (r, now (records .exit), now (out .exit))
+        ≡ flatAcks (consumesAcks ring (now (records .entry)) used «src_conn_id» «dst_conn_id» (now (out .entry))) ⌝ }
 {
     let answer = writer::acks::consume_acks_into(
         ring,

@@ -4,14 +4,10 @@ use flat::headers::Written;
 use flat::sending::DataPacked;
 use flat::sending::Reserved;
 ghost use mathlib.Core.Path.{_≡_};
-ghost use mathlib.Core.List.{List};
-ghost use Prim.Native.Nat.{ℕ};
 ghost use Rattle.net.specs.Control.{writesFin, writesFinAck};
 ghost use Rattle.writer.specs.Packing.{byteLimit, packing};
 ghost use Rattle.writer.specs.PayloadBytes.{payloadBytes};
 ghost use Rattle.writer.specs.Reserve.{reserving};
-ghost use Rattle.flat.specs.declared.headers.Written.{Written};
-ghost use Rattle.flat.specs.declared.sending.DataPacked.{DataPacked};
 ghost use Rattle.flat.specs.Answers.{firstBy};
 ghost use Rattle.flat.specs.Headers.{writtenOf};
 ghost use Rattle.flat.specs.Sending.{dataPackedOf, reservedOf};
@@ -25,7 +21,8 @@ pub extern "C" fn bluefin_consume_data_into(
     dst_conn_id: u32,
     out: &mut [u8],
 ) -> DataPacked
-    ensures { λ r. ⌜ _≡_ {A = DataPacked × List ℕ} (r, now (out .exit)) (firstBy dataPackedOf (packing byteLimit (record { bytes = now (bytes .entry); lengths = now (lengths .entry) }) «next_packet_num» «src_conn_id» «dst_conn_id» (now (out .entry)))) ⌝ }
+    ensures { λ r. ⌜ (r, now (out .exit))
+        ≡ firstBy dataPackedOf (packing byteLimit (record { bytes = now (bytes .entry); lengths = now (lengths .entry) }) «next_packet_num» «src_conn_id» «dst_conn_id» (now (out .entry))) ⌝ }
 {
     flat::sending::data_packed_of(writer::consume_data_into(
         bytes,
@@ -58,7 +55,7 @@ pub extern "C" fn bluefin_write_fin(
     packet_number: u64,
     buf: &mut [u8],
 ) -> Written
-    ensures { λ r. ⌜ _≡_ {A = Written × List ℕ} (r, now (buf .exit)) (firstBy writtenOf (writesFin «src_conn_id» «dst_conn_id» «packet_number» (now (buf .entry)))) ⌝ }
+    ensures { λ r. ⌜ (r, now (buf .exit)) ≡ firstBy writtenOf (writesFin «src_conn_id» «dst_conn_id» «packet_number» (now (buf .entry))) ⌝ }
 {
     flat::headers::written_of(net::write_fin(src_conn_id, dst_conn_id, packet_number, buf))
 }
@@ -70,7 +67,8 @@ pub extern "C" fn bluefin_write_fin_ack(
     packet_number: u64,
     buf: &mut [u8],
 ) -> Written
-    ensures { λ r. ⌜ _≡_ {A = Written × List ℕ} (r, now (buf .exit)) (firstBy writtenOf (writesFinAck «src_conn_id» «dst_conn_id» «packet_number» (now (buf .entry)))) ⌝ }
+    ensures { λ r. ⌜ (r, now (buf .exit))
+        ≡ firstBy writtenOf (writesFinAck «src_conn_id» «dst_conn_id» «packet_number» (now (buf .entry))) ⌝ }
 {
     flat::headers::written_of(net::write_fin_ack(src_conn_id, dst_conn_id, packet_number, buf))
 }

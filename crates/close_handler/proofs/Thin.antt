@@ -274,4 +274,5 @@ module _ {M : Type 1} (𝓤 : URA M) (H : Heap 𝓤) (A : Atoms 𝓤) where
     pub thin-meets : (F : CloseBuffer → ℕ → CloseBuffer) → Triple 𝓤 (𝓣 .C k) (CalleeNumbered F)
         → Triple 𝓤 (WpFn 𝓤 H (𝓣 .C) (𝓣 .Λ) (thin k)) (Call numbered builtin.unit (λ κs h n y r. r ≡ F h (n .0)) 𝓤 H A)
     thin-meets F known = changed numbered builtin.unit (λ κs h n y r. r ≡ F h (n .0)) (λ κs h n. F h (n .0)) (λ h. tt) (λ h. vunit) (λ κs h n r e. e)
-        𝓤 H A W (λ h g. nothing-makes 𝓤 H A W tt (vunit ∷ []) refl) (𝓣 .C) (fmOf 𝓤 H (W .laws) 𝓣) k (λ κs. makes (plain (λ _. builtin.u64) ∷ []) (yes, tt) (λ h n. F h (n .0)) 𝓤 H A W (𝓣 .C) (fmOf 𝓤 H (W .laws) 𝓣) k known) (𝓣 .Λ) (thin k) (walk k)
+        𝓤 H A W (λ h g. nothing-makes 𝓤 H A W tt (vunit ∷ []) refl) (𝓣 .C) (fmOf 𝓤 H (W .laws) 𝓣) k
+        (λ κs. makes (plain (λ _. builtin.u64) ∷ []) (yes, tt) (λ h n. F h (n .0)) 𝓤 H A W (𝓣 .C) (fmOf 𝓤 H (W .laws) 𝓣) k known) (𝓣 .Λ) (thin k) (walk k)

@@ -1,2 +1,2 @@
-pub mod Lasts
+pub mod Laws
 pub mod CloseTrip

@@ -3,8 +3,8 @@ pub mod Headers
 pub mod Packets
 pub mod Acked
 pub mod Sending
-pub mod Buffers
-pub mod RingAnswers
+pub mod Buffer
+pub mod Ring
 pub mod Datagrams
 pub mod Closing
-pub mod Hosts
+pub mod Hello

@@ -9,7 +9,7 @@ use ordered_bytes::Peeked;
 ghost use mathlib.Core.Path.{_≡_};
 ghost use Rattle.refusal.specs.Said.{refusalIn};
 ghost use Rattle.ordered_bytes.specs.Calls.{createdSays, startedSays, acceptedSays, peekedSays, consumedSays, consumedBytesSays};
-ghost use Rattle.flat.specs.Buffers.{noBuffer, startedOf, consumedOf, consumedBytesOf};
+ghost use Rattle.flat.specs.Buffer.{noBuffer, startedOf, consumedOf, consumedBytesOf};
 
 #[repr(C)]
 pub struct Started {

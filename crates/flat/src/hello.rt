@@ -2,7 +2,7 @@
 // Proved: the conversion is that of specs/Hosts.antt.
 use net::BluefinHost;
 ghost use mathlib.Core.Path.{_≡_};
-ghost use Rattle.flat.specs.Hosts.{hostIn};
+ghost use Rattle.flat.specs.Hello.{hostIn};
 
 pub fn host_in(host: u8) -> BluefinHost
     ensures { λ r. ⌜ r ≡ hostIn host ⌝ }

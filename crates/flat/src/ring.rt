@@ -7,7 +7,7 @@ ghost use mathlib.Core.Path.{_≡_};
 ghost use Rattle.ring_buffer.specs.Ring.{blank};
 ghost use Rattle.ring_buffer.specs.Says.{pushedSays, ringPushed, poppedSays, ringPopped, peekedSays, clearedSays, ringCleared};
 ghost use Rattle.writer.specs.Acks.{acksSays, ringAfter};
-ghost use Rattle.flat.specs.RingAnswers.{pushedOf, poppedOf, clearedOf, acksOf};
+ghost use Rattle.flat.specs.Ring.{pushedOf, poppedOf, clearedOf, acksOf};
 
 #[repr(C)]
 pub struct Pushed {

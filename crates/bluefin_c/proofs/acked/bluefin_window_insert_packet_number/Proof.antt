@@ -1,6 +1,6 @@
 -- `bluefin_c::acked::bluefin_window_insert_packet_number` meets its contract. Assumes nothing.
 use Rattle.flat.specs.Acked.{insertedOf}
-use Rattle.bluefin_c.proofs.Flat.{flat-window}
+use Rattle.flat.proofs.Laws.{flat-window}
 use borrow.Author.Needs.{needs}
 use Rattle.bluefin_c.proofs.acked.bluefin_window_insert_packet_number.Statement.{statement}
 use Rattle.bluefin_c.proofs.acked.bluefin_window_insert_packet_number.Tie as tie

@@ -1,11 +1,15 @@
 -- `bluefin_c::buffer::bluefin_ordered_bytes_consume` meets its contract. Assumes nothing.
-use Rattle.bluefin_c.proofs.FlatBuffers.{flat-consumption}
+use Rattle.flat.proofs.Laws.{flat-consumption}
 use borrow.Author.Needs.{needs}
 use Rattle.bluefin_c.proofs.buffer.bluefin_ordered_bytes_consume.Statement.{statement}
 use Rattle.bluefin_c.proofs.buffer.bluefin_ordered_bytes_consume.Tie as tie
 
+-- two, four: that many lent slices before the end
 returns : tie.Need-returns
-returns c = flat-consumption (c .consumed-of .ensures) (c .before .before .before .before .before .before .before .before .before .consume .ensures)
+returns c =
+    let two = c .before .before .before .before in
+    let four = two .before .before .before .before in
+    flat-consumption (c .consumed-of .ensures) (four .before .consume .ensures)
 
 pub bluefin-ordered-bytes-consume-spec : {M : Type 1} → statement M
 bluefin-ordered-bytes-consume-spec =

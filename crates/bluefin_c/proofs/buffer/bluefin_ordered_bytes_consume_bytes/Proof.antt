@@ -1,13 +1,17 @@
 -- `bluefin_c::buffer::bluefin_ordered_bytes_consume_bytes` meets its contract. Assumes nothing.
-use Rattle.bluefin_c.proofs.FlatBuffers.{flat-pieces}
+use Rattle.flat.proofs.Laws.{flat-pieces}
 use borrow.Author.Needs.{needs}
 use Rattle.bluefin_c.proofs.buffer.bluefin_ordered_bytes_consume_bytes.Statement.{
   statement,
 }
 use Rattle.bluefin_c.proofs.buffer.bluefin_ordered_bytes_consume_bytes.Tie as tie
 
+-- two, four: that many lent slices before the end
 returns : tie.Need-returns
-returns c = flat-pieces (c .consumed-bytes-of .ensures) (c .before .before .before .before .before .before .before .before .before .before .before .consume-bytes .ensures)
+returns c =
+    let two = c .before .before .before .before in
+    let four = two .before .before .before .before in
+    flat-pieces (c .consumed-bytes-of .ensures) (four .before .before .before .consume-bytes .ensures)
 
 pub bluefin-ordered-bytes-consume-bytes-spec : {M : Type 1} → statement M
 bluefin-ordered-bytes-consume-bytes-spec =

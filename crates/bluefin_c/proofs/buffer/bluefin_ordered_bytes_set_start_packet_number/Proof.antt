@@ -1,6 +1,6 @@
 -- `bluefin_c::buffer::bluefin_ordered_bytes_set_start_packet_number` meets its contract. Assumes nothing.
 use mathlib.Core.Path.{ap, _∙_}
-use Rattle.flat.specs.Buffers.{startedOf}
+use Rattle.flat.specs.Buffer.{startedOf}
 use borrow.Author.Needs.{needs}
 use Rattle.bluefin_c.proofs.buffer.bluefin_ordered_bytes_set_start_packet_number.Statement.{
   statement,

@@ -1,7 +1,7 @@
 -- `bluefin_c::closing::bluefin_close_buffer_in_fin` meets its contract. Assumes nothing.
 use mathlib.Core.Path.{ap, _∙_}
 use Rattle.close_handler.specs.Close.{afterFin}
-use Rattle.bluefin_c.proofs.FlatClosing.{refused-close, moved-close}
+use Rattle.flat.proofs.Laws.{refused-close, moved-close}
 use borrow.Author.Needs.{needs}
 use Rattle.bluefin_c.proofs.closing.bluefin_close_buffer_in_fin.Statement.{statement}
 use Rattle.bluefin_c.proofs.closing.bluefin_close_buffer_in_fin.Tie as tie

@@ -3,7 +3,7 @@ use mathlib.Core.Path.{ap, _∙_}
 use borrow.Author.Tests.{le-ltb}
 use Rattle.header.specs.Header.{serialisesInto}
 use Rattle.flat.specs.Headers.{writtenOf}
-use Rattle.bluefin_c.proofs.Flat.{flat-first, known}
+use Rattle.flat.proofs.Laws.{flat-first, known}
 use denote.Ref.{now}
 use borrow.Author.Needs.{needs}
 use Rattle.bluefin_c.proofs.headers.bluefin_header_serialise_into.Statement.{statement}

@@ -1,6 +1,6 @@
 -- `bluefin_c::packets::bluefin_from_bytes` meets its contract. Assumes nothing.
 use Rattle.flat.specs.Packets.{parsedOf}
-use Rattle.bluefin_c.proofs.Flat.{flat-first}
+use Rattle.flat.proofs.Laws.{flat-first}
 use borrow.Author.Needs.{needs}
 use Rattle.bluefin_c.proofs.packets.bluefin_from_bytes.Statement.{statement}
 use Rattle.bluefin_c.proofs.packets.bluefin_from_bytes.Tie as tie

@@ -1,5 +1,5 @@
 -- `bluefin_c::packets::bluefin_from_bytes_into` meets its contract. Assumes nothing.
-use Rattle.bluefin_c.proofs.FlatDatagrams.{flat-index}
+use Rattle.flat.proofs.Laws.{flat-index}
 use borrow.Author.Needs.{needs}
 use Rattle.bluefin_c.proofs.packets.bluefin_from_bytes_into.Statement.{statement}
 use Rattle.bluefin_c.proofs.packets.bluefin_from_bytes_into.Tie as tie

@@ -3,7 +3,7 @@ use mathlib.Core.Path.{ap, _∙_}
 use borrow.Author.Tests.{le-ltb}
 use Rattle.packet.specs.Packet.{serialisesInto}
 use Rattle.flat.specs.Headers.{writtenOf}
-use Rattle.bluefin_c.proofs.Flat.{flat-first, known}
+use Rattle.flat.proofs.Laws.{flat-first, known}
 use denote.Ref.{now}
 use borrow.Author.Needs.{needs}
 use Rattle.bluefin_c.proofs.packets.bluefin_packet_serialise_into.Statement.{statement}
@@ -16,10 +16,11 @@ returns-2 : tie.Need-returns-2
 returns-2 c =
     let wrote = c .before .before .before in
     let typed = wrote .before .before in
-    let a = typed .before .before .before .before .before .args in
+    let tested = typed .before in
+    let a = tested .before .before .before .before .args in
     flat-first writtenOf (c .packet-written-of .ensures) (
     wrote .serialise-into .ensures ∙ ap (λ h. serialisesInto (record { header = h; payload = now (a .payload) }) (now (a .buf))) (typed .header-in .ensures)
-    ∙ known (a .header) (now (a .buf)) _ (typed .before .if1 .left)
+    ∙ known (a .header) (now (a .buf)) _ (tested .if1 .left)
     )
 
 pub bluefin-packet-serialise-into-spec : {M : Type 1} → statement M

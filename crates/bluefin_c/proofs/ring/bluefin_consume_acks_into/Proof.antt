@@ -2,27 +2,32 @@
 use mathlib.Core.Path.{_≡_}
 use Prim.Native.Nat.{ℕ}
 use mathlib.Core.List.{List}
-use denote.Ref.{now}
+use denote.Ref.{RefT, now}
 use Rattle.ring_buffer.specs.declared.AckData.{AckData}
-use Rattle.writer.specs.Acks.{acksSays, ringAfter, leaves, consumesAcks}
+use Rattle.ring_buffer.specs.declared.RingBuffer.{RingBuffer}
+use Rattle.writer.specs.Acks.{Outcome, acksSays, ringAfter, leaves, consumesAcks}
 use Rattle.writer.proofs.acks.AcksAnswer as X
 use Rattle.writer.proofs.acks.AcksAnswer.Laws as X′
 use Rattle.writer.proofs.acks.consume_acks_into.Symbol as callee-def
 use Rattle.writer.proofs.acks.consume_acks_into.Symbol.{name as #callee}
 use Rattle.writer.proofs.acks.consume_acks_into.Met as callee-thm
-use Rattle.flat.specs.RingAnswers.{acksOf, flatAcks}
+use Rattle.flat.specs.Ring.{acksOf, flatAcks}
 use Rattle.flat.specs.declared.ring.AcksPacked.{AcksPacked}
 use Rattle.flat.proofs.ring.AcksPacked as Y
 use Rattle.flat.proofs.ring.AcksPacked.Laws as Y′
 use Rattle.flat.proofs.ring.acks_packed_of.Symbol as convert-def
 use Rattle.flat.proofs.ring.acks_packed_of.Symbol.{name as #convert}
 use Rattle.flat.proofs.ring.acks_packed_of.Met as convert-thm
-use Rattle.bluefin_c.proofs.RingFlat.{flat-acks}
+use Rattle.flat.proofs.Laws.{flat-acks}
 use Rattle.bluefin_c.proofs.Lent.{Handed, stands}
 use Rattle.bluefin_c.proofs.Shapes.{packing-others, packing, packing-walk}
 use Rattle.bluefin_c.proofs.ring.bluefin_consume_acks_into.Key.{name as #self}
 use Rattle.bluefin_c.proofs.ring.bluefin_consume_acks_into.Statement as stated
 use Rattle.bluefin_c.proofs.ring.bluefin_consume_acks_into.Code as code
+
+-- the call's arguments, and what it comes to
+abbrev Comes : RingBuffer × (RefT (List AckData) × (ℕ × (ℕ × (ℕ × (RefT (List ℕ) × Unit {0}))))) → Outcome
+Comes a = consumesAcks (a .0) (now (a .1 .0)) (a .1 .1 .0) (a .1 .1 .1 .0) (a .1 .1 .1 .1 .0) (now (a .1 .1 .1 .1 .1 .0))
 
 abbrev handed : Handed
 handed = record {
@@ -35,9 +40,8 @@ handed = record {
   struct = Y.the-type;
   struct-laws = Y′.the-laws;
   h = λ g x. acksOf (ringAfter g x) (acksSays x);
-  P = λ κs a x e. leaves (acksSays x) (ringAfter (a .0) x) (now (e .1 .0)) (now (e .1 .1 .1 .1 .1 .0)) ≡ consumesAcks (a .0) (now (a .1 .0)) (a .1 .1 .0) (a .1 .1 .1 .0) (a .1 .1 .1 .1 .0) (now (a .1 .1 .1 .1 .1 .0));
-  Z = λ κs a y e. _≡_ {A = AcksPacked × List AckData × List ℕ} (y, now (e .1 .0), now (e .1 .1 .1 .1 .1 .0))
-      (flatAcks (consumesAcks (a .0) (now (a .1 .0)) (a .1 .1 .0) (a .1 .1 .1 .0) (a .1 .1 .1 .1 .0) (now (a .1 .1 .1 .1 .1 .0))));
+  P = λ κs a x e. leaves (acksSays x) (ringAfter (a .0) x) (now (e .1 .0)) (now (e .1 .1 .1 .1 .1 .0)) ≡ Comes a;
+  Z = λ κs a y e. _≡_ {A = AcksPacked × List AckData × List ℕ} (y, now (e .1 .0), now (e .1 .1 .1 .1 .1 .0)) (flatAcks (Comes a));
   turns = λ κs a p r e is says. flat-acks is says;
 }
 

@@ -6,7 +6,7 @@ use Rattle.ring_buffer.proofs.Cleared.Laws as X′
 use Rattle.ring_buffer.proofs.clear.Symbol as callee-def
 use Rattle.ring_buffer.proofs.clear.Symbol.{name as #callee}
 use Rattle.ring_buffer.proofs.clear.Met as callee-thm
-use Rattle.flat.specs.RingAnswers.{clearedOf}
+use Rattle.flat.specs.Ring.{clearedOf}
 use Rattle.flat.proofs.ring.Cleared as Y
 use Rattle.flat.proofs.ring.Cleared.Laws as Y′
 use Rattle.flat.proofs.ring.cleared_of.Symbol as convert-def

@@ -8,7 +8,7 @@ use Rattle.ring_buffer.proofs.Peeked.Laws as X′
 use Rattle.ring_buffer.proofs.front.Symbol as callee-def
 use Rattle.ring_buffer.proofs.front.Symbol.{name as #callee}
 use Rattle.ring_buffer.proofs.front.Met as callee-thm
-use Rattle.flat.specs.RingAnswers.{poppedOf}
+use Rattle.flat.specs.Ring.{poppedOf}
 use Rattle.flat.proofs.ring.Popped as Y
 use Rattle.flat.proofs.ring.Popped.Laws as Y′
 use Rattle.flat.proofs.ring.peeked_of.Symbol as convert-def

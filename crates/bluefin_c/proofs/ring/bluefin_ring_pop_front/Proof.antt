@@ -6,7 +6,7 @@ use Rattle.ring_buffer.proofs.Popped.Laws as X′
 use Rattle.ring_buffer.proofs.pop_front.Symbol as callee-def
 use Rattle.ring_buffer.proofs.pop_front.Symbol.{name as #callee}
 use Rattle.ring_buffer.proofs.pop_front.Met as callee-thm
-use Rattle.flat.specs.RingAnswers.{poppedOf}
+use Rattle.flat.specs.Ring.{poppedOf}
 use Rattle.flat.proofs.ring.Popped as Y
 use Rattle.flat.proofs.ring.Popped.Laws as Y′
 use Rattle.flat.proofs.ring.popped_of.Symbol as convert-def

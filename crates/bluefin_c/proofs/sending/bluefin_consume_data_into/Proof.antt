@@ -1,6 +1,6 @@
 -- `bluefin_c::sending::bluefin_consume_data_into` meets its contract. Assumes nothing.
 use Rattle.flat.specs.Sending.{dataPackedOf}
-use Rattle.bluefin_c.proofs.Flat.{flat-first}
+use Rattle.flat.proofs.Laws.{flat-first}
 use borrow.Author.Needs.{needs}
 use Rattle.bluefin_c.proofs.sending.bluefin_consume_data_into.Statement.{statement}
 use Rattle.bluefin_c.proofs.sending.bluefin_consume_data_into.Tie as tie

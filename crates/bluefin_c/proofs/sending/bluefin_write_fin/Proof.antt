@@ -1,6 +1,6 @@
 -- `bluefin_c::sending::bluefin_write_fin` meets its contract. Assumes nothing.
 use Rattle.flat.specs.Headers.{writtenOf}
-use Rattle.bluefin_c.proofs.Flat.{flat-first}
+use Rattle.flat.proofs.Laws.{flat-first}
 use borrow.Author.Needs.{needs}
 use Rattle.bluefin_c.proofs.sending.bluefin_write_fin.Statement.{statement}
 use Rattle.bluefin_c.proofs.sending.bluefin_write_fin.Tie as tie

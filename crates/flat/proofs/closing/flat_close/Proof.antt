@@ -4,7 +4,10 @@ use Rattle.flat.proofs.closing.flat_close.Statement.{statement}
 use Rattle.flat.proofs.closing.flat_close.Tie as tie
 
 returns : tie.Need-returns
-returns c = simp (c .before .before .before .before .before .state-fin .ensures, c .before .before .before .before .number-or-0 .ensures, c .before .before .before .number-or-02 .ensures, c .before .before .state-number .ensures, c .before .is-there .ensures, c .is-there2 .ensures)
+returns c =
+    let told = c .before .before in
+    let fins = told .before .before in
+    simp (fins .before .state-fin .ensures, fins .number-or-0 .ensures, told .before .number-or-02 .ensures, told .state-number .ensures, c .before .is-there .ensures, c .is-there2 .ensures)
 
 pub flat-close-spec : {M : Type 1} → statement M
 flat-close-spec =

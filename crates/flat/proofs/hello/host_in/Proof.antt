@@ -1,5 +1,5 @@
 -- `flat::hello::host_in` meets its contract. Assumes nothing.
-use Rattle.flat.proofs.Lasts.{host-last}
+use Rattle.flat.proofs.Laws.{host-last}
 use borrow.Author.Needs.{needs}
 use Rattle.flat.proofs.hello.host_in.Statement.{statement}
 use Rattle.flat.proofs.hello.host_in.Tie as tie
