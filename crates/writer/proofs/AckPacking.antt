@@ -13,10 +13,11 @@ use Rattle.ring_buffer.specs.Ring.{wellFormed, contents, popped, blanked}
 use Rattle.ring_buffer.specs.declared.AckData.{AckData}
 use Rattle.ring_buffer.specs.declared.RingBuffer.{RingBuffer}
 use Rattle.ring_buffer.proofs.Blanked.{blanked-none}
-use Rattle.writer.specs.Acks.{ackCount, acksTaken, anyTooLarge, ackChecks, packed, Outcome, leaves, consumesAcks}
-use Rattle.writer.specs.AckSteps.{malformed, due, batch, saying, leaving, Answers, Scanned, written, Packable, Drained}
+use Rattle.writer.specs.Acks.{ackCount, acksTaken, anyTooLarge, ackChecks, packed, acksSays, ringAfter, Outcome, leaves, consumesAcks}
+use Rattle.writer.specs.AckSteps.{malformed, due, batch, Answers, Scanned, written, Packable, Drained}
 use Rattle.writer.specs.declared.acks.AcksPacked.{AcksPacked}
 use Rattle.writer.specs.declared.acks.AckBatch.{AckBatch}
+use Rattle.writer.specs.declared.acks.AcksAnswer.{AcksAnswer}
 use Rattle.writer.proofs.AckCount.{count-queued}
 use Rattle.writer.proofs.AckChecks.{failed-is, ring-well}
 use Rattle.writer.proofs.AckTurns.{written-none}
@@ -73,17 +74,18 @@ module _ (g : RingBuffer) (ys : List AckData) (used src dst : ℕ) (out : List �
         by true e = rw e refl
         by false e = ap (λ (t : Bool). checks (ackChecks g c used room t) refused done) (scan-is e)
 
-    -- what is said and what is left, step by step, is what the definition gives
-    pub outcome-is : {s : Said AcksPacked} {h : RingBuffer} {zs : List AckData} {ws : List ℕ} → s ≡ saying g c used room over → h ≡ leaving g c used room over
-        → zs ≡ blanked (g .head) (b .taken) ys → ws ≡ written g ys used src dst out (b .taken) → leaves s h zs ws ≡ consumesAcks g ys used src dst out
-    outcome-is {s} {h} {zs} {ws} ps ph pz pw = by (checked refused done cs) ∙ decided-is
+    -- what is answered and what is left, step by step, is what the definition gives
+    pub outcome-is : (r : AcksAnswer) {zs : List AckData} {ws : List ℕ} → Answers g c used room over r → Drained b ys out zs ws
+        → leaves (acksSays r) (ringAfter g r) zs ws ≡ consumesAcks g ys used src dst out
+    outcome-is r {zs} {ws} a d = by (checked refused done cs) ∙ decided-is
       where
-        by : Checked cs refused done → leaves s h zs ws ≡ checks cs refused done
+        by : Checked cs refused done → leaves (acksSays r) (ringAfter g r) zs ws ≡ checks cs refused done
         by (passes p q) =
             let k-is : b .taken ≡ k = passed-is (λ n. 0) k cs p in
-            same-outcome (ps ∙ passed-is refuses (answers (packed g used)) cs p) (ph ∙ passed-is (λ n. g) (popped g c k) cs p)
-            (pz ∙ ap (λ (n : ℕ). blanked (g .head) n ys) k-is) (pw ∙ ap (written g ys used src dst out) k-is) ∙ sym q
+            same-outcome (a .0 ∙ passed-is refuses (answers (packed g used)) cs p) (a .1 ∙ passed-is (λ n. g) (popped g c k) cs p)
+            (d .0 ∙ ap (λ (n : ℕ). blanked (g .head) n ys) k-is) (d .1 ∙ ap (written g ys used src dst out) k-is) ∙ sym q
         by (fails n f q) =
             let k-is : b .taken ≡ 0 = failed-is (λ r. 0) k cs f in
-            same-outcome (ps ∙ failed-is refuses (answers (packed g used)) cs f) (ph ∙ failed-is (λ r. g) (popped g c k) cs f)
-            (pz ∙ ap (λ (m : ℕ). blanked (g .head) m ys) k-is ∙ sym (blanked-none (g .head) ys)) (pw ∙ ap (written g ys used src dst out) k-is ∙ sym (written-none g ys used src dst out)) ∙ sym q
+            same-outcome (a .0 ∙ failed-is refuses (answers (packed g used)) cs f) (a .1 ∙ failed-is (λ r. g) (popped g c k) cs f)
+            (d .0 ∙ ap (λ (m : ℕ). blanked (g .head) m ys) k-is ∙ sym (blanked-none (g .head) ys))
+            (d .1 ∙ ap (written g ys used src dst out) k-is ∙ sym (written-none g ys used src dst out)) ∙ sym q

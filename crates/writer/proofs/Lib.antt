@@ -9,3 +9,4 @@ pub mod AckChecks
 pub mod AckTurns
 pub mod AckPacking
 pub mod AckLaws
+pub mod Walking
