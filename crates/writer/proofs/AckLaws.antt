@@ -125,7 +125,9 @@ module _ (g : RingBuffer) (ys : List AckData) (used src dst : ℕ) (out : List �
     queue-left = ap (λ (x : Outcome). contents (x .ring) (x .cells)) (went .1) ∙ popped-contents g ys well k (count-queued g used)
 
     pub ring-keeps : wellFormed (left .ring) (length (left .cells)) ≡ true
-    ring-keeps = ap (λ (x : Outcome). wellFormed (x .ring) (length (x .cells))) (went .1) ∙ ap (wellFormed (popped g (length ys) k)) (length-blanked (g .head) k ys) ∙ popped-keeps g ys well k (count-queued g used)
+    ring-keeps =
+        ap (λ (x : Outcome). wellFormed (x .ring) (length (x .cells))) (went .1)
+        ∙ ap (wellFormed (popped g (length ys) k)) (length-blanked (g .head) k ys) ∙ popped-keeps g ys well k (count-queued g used)
 
     -- "the Rust cuts it off": here no count that is packed is cut
     pub none-cut : (i : ℕ) → i < k → getD acks i blank .«num_packets_consumed» ≤ 65535
@@ -142,6 +144,7 @@ module _ (g : RingBuffer) (ys : List AckData) (used src dst : ℕ) (out : List �
         let x-long : length x ≡ 20 * k = length-acks src dst acks ∙ ap (λ (n : ℕ). 20 * n) length-taken in
         let before : length (take used out) ≡ used = length-take-le used out inside in
         let whole : sent ≡ take used out ++ x =
-        ap (λ (r : Outcome). take (used + 20 * k) (r .out)) (went .1) ∙ take-paste out used x (20 * k) inside (omega (arith, x-long)) ∙ ap (λ (r : List ℕ). take used out ++ r) (take-all (20 * k) x (omega (arith, x-long))) in
+        ap (λ (r : Outcome). take (used + 20 * k) (r .out)) (went .1) ∙ take-paste out used x (20 * k) inside (omega (arith, x-long))
+        ∙ ap (λ (r : List ℕ). take used out ++ r) (take-all (20 * k) x (omega (arith, x-long))) in
         let all = reads src dst src-fits dst-fits sent acks used (ap (drop used) whole ∙ drop-at (take used out) x used before) (went .0 .1 .0) (λ i h. base i (omega (arith, length-taken, h))) in
         (ap (take used) whole ∙ take-at (take used out) x used before, ap (λ (w : Walk). w .ending) (all .0), ap (λ (w : Walk). map (packetAt sent) (w .cells)) (all .0) ∙ all .1)

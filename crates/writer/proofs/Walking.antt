@@ -13,7 +13,7 @@
 use mathlib.Core.{Path.sym, Path.ap, Path.subst, Path._≡_, WellFounded.WellFounded, WellFounded.InvImage·wf, Bool.Bool, Bool.true, Bool.false, List.List, List.[], List._∷_, List._++_}
 use Prim.Native.Nat.{ℕ, _-_, _<_, _≤_}
 use lib.{ListN.length, WfN.Nat·lt-wfRel}
-use mir.Syntax.{Ty, Width, Name, Fn, Local, local, Place, place, Opd as Operand, copy, Rv as RValue, Body, seq, assign, call, cond, skip, exit}
+use mir.Syntax.{Ty, Lifetime, Width, Name, Fn, Local, local, Place, place, Opd as Operand, copy, Rv as RValue, Body, seq, assign, call, cond, skip, exit}
 use base.{Logic.comm∗, Logic.mono∗, Logic.monoR, Logic.emp∗, Fml.fsep, Fml.fat, Fml.froom, Fml.fdies}
 use prog.{Wp.Loops, Wp.exits, Wp.spotOf, Wp.Closed, Model.Model, Routine.Env as Routines}
 use contract.{Lifetimes.Lfts, Lifetimes.Shares, Running.Running, Running.GhostRules}
@@ -138,6 +138,9 @@ module _ {M : Type 1} {𝓤 : URA M} {H : Heap 𝓤} {A : Atoms 𝓤} (W : Given
   abbrev pub a-number : (w : Width) → Kind 𝓤 H A (UInt w)
   a-number w = record { val = vint w; tells = uint-tells w; makes = uint-makes 𝓤 H A W w; lawful = uint-lawful 𝓤 H A W w }
 
+  abbrev pub a-word : Kind 𝓤 H A usize
+  a-word = a-number w64
+
   abbrev pub a-flag : Kind 𝓤 H A bool
   a-flag = record { val = vbool; tells = bool-tells; makes = bool-makes 𝓤 H A W; lawful = bool-lawful 𝓤 H A W }
 
@@ -176,12 +179,15 @@ module _ {M : Type 1} (𝓤 : URA M) (H : Heap 𝓤) (A : Atoms 𝓤) where
       → ent 𝓤 (sep 𝓤 P (sem 𝓤 H A F)) (sep 𝓤 (sep 𝓤 (sep 𝓤 P (emp 𝓤)) (sem 𝓤 H A (fsep F (owns Rs a (valsOf Rs ks a))))) Q)
   lent-in Rs ks a are P Q F asks = behind 𝓤 asks (mono∗ 𝓤 (behind 𝓤 (id⊢ 𝓤 (emp 𝓤)) (id⊢ 𝓤 P)) (behind 𝓤 (had Rs ks a are) (id⊢ 𝓤 (sem 𝓤 H A F))))
 
--- a slice at its address, by another name and list, and its machine value
+-- a slice at its address, by another name and list, its machine value, and what is owned of it
 abbrev pub relent : {D : Type 0} → RefT (List D) → GName → List D → RefT (List D)
 relent x δ l = record { ptr = x .ptr; name = δ; now = l }
 
 abbrev pub in-memory : {D : Type 0} → RefT (List D) → Val
 in-memory x = sliceVal (x .ptr) (length (x .now))
+
+abbrev pub owned-slice : (R : RattleType) → Lifetime → Lft → RefT (List (R .Denot)) → GName → List (R .Denot) → Fml
+owned-slice R ℓ κ x δ l = MutSlice ℓ κ R .own (relent x δ l) (in-memory x ∷ [])
 
 -- ---- calls
 

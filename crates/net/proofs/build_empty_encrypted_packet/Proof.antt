@@ -7,15 +7,6 @@ use Rattle.header.specs.declared.BluefinSecurityFields.{BluefinSecurityFields}
 use Rattle.net.proofs.build_empty_encrypted_packet.Statement.{statement}
 use Rattle.net.proofs.build_empty_encrypted_packet.Tie as tie
 
-new-requires : tie.Need-new-requires
-new-requires c κs = search needs
-
-new-requires-2 : tie.Need-new-requires-2
-new-requires-2 c κs = search needs
-
-with-packet-number-requires : tie.Need-with-packet-number-requires
-with-packet-number-requires c κs = search needs
-
 abbrev fields : Bool → ℕ → BluefinSecurityFields
 fields e m = record { «header_encrypted» = e; «header_protection_mask» = m }
 
@@ -27,4 +18,4 @@ returns c =
 
 pub build-empty-encrypted-packet-spec : {M : Type 1} → statement M
 build-empty-encrypted-packet-spec =
-    tie.close (tie.spec new-requires new-requires-2 with-packet-number-requires returns)
+    tie.close (tie.spec (λ c κs. search needs) (λ c κs. search needs) (λ c κs. search needs) returns)

@@ -10,15 +10,6 @@ use Rattle.net.proofs.is_client_ack_packet.Tie as tie
 enum-told : tie.Need-enum-told
 enum-told c = search needs
 
-has-type-requires : tie.Need-has-type-requires
-has-type-requires c κs = search needs
-
-enum-told-2 : tie.Need-enum-told-2
-enum-told-2 c = search needs
-
-enum-told-3 : tie.Need-enum-told-3
-enum-told-3 c = search needs
-
 -- type and source come as one answer
 tested : (t : tie.Joined1) → hasType (t .before .before .before .before .args .header) 2 && not (sourceIs0 (t .before .before .before .before .args .header)) ≡ t .if1 .if2
 tested t = rw (sym (t .before .has-type .ensures)) (both (λ w. w .taken) (λ w. w .left) (t .if1 .came))
@@ -29,21 +20,7 @@ returns c = simp (c .before .before .before .enum-told .given .1, tested (c .bef
 returns-2 : tie.Need-returns-2
 returns-2 c = simp (c .before .before .before .enum-told .given .1, tested (c .before) ∙ c .if2 .left, c .if2 .left)
 
-returns-3 : tie.Need-returns-3
-returns-3 c = search needs
-
-returns-4 : tie.Need-returns-4
-returns-4 c = search needs
-
 pub is-client-ack-packet-spec : {M : Type 1} → statement M
 is-client-ack-packet-spec =
     tie.close
-    (tie.spec
-    enum-told
-    has-type-requires
-    enum-told-2
-    enum-told-3
-    returns
-    returns-2
-    returns-3
-    returns-4)
+    (tie.spec enum-told (λ c κs. search needs) (λ c. search needs) (λ c. search needs) returns returns-2 (λ c. search needs) (λ c. search needs))

@@ -10,18 +10,6 @@ use Rattle.net.proofs.is_hello_packet.Tie as tie
 enum-told : tie.Need-enum-told
 enum-told c = search needs
 
-has-type-requires : tie.Need-has-type-requires
-has-type-requires c κs = search needs
-
-enum-told-2 : tie.Need-enum-told-2
-enum-told-2 c = search needs
-
-has-type-requires-2 : tie.Need-has-type-requires-2
-has-type-requires-2 c κs = search needs
-
-enum-told-3 : tie.Need-enum-told-3
-enum-told-3 c = search needs
-
 -- type and source come as one answer
 tested : (t : tie.Joined1) → hasType (t .before .before .before .before .args .header) 0 && not (sourceIs0 (t .before .before .before .before .args .header)) ≡ t .if1 .if2
 tested t = rw (sym (t .before .has-type .ensures)) (both (λ w. w .taken) (λ w. w .left) (t .if1 .came))
@@ -41,20 +29,8 @@ returns-3 c = simp (c .before .before .before .enum-told2 .given .1, tested-2 (c
 returns-4 : tie.Need-returns-4
 returns-4 c = simp (c .before .before .before .enum-told2 .given .1, tested-2 (c .before) ∙ c .if4 .left, c .if4 .left)
 
-returns-5 : tie.Need-returns-5
-returns-5 c = search needs
-
 pub is-hello-packet-spec : {M : Type 1} → statement M
 is-hello-packet-spec =
     tie.close
-    (tie.spec
-    enum-told
-    has-type-requires
-    enum-told-2
-    has-type-requires-2
-    enum-told-3
-    returns
-    returns-2
-    returns-3
-    returns-4
-    returns-5)
+    (tie.spec enum-told (λ c κs. search needs) (λ c. search needs) (λ c κs. search needs) (λ c. search needs) returns returns-2 returns-3 returns-4
+    (λ c. search needs))

@@ -15,43 +15,24 @@ use Rattle.writer.proofs.Packed.{malformed, exhausted, short, packed}
 use Rattle.writer.proofs.consume_data_up_to.Statement.{statement}
 use Rattle.writer.proofs.consume_data_up_to.Tie as tie
 
+abbrev start : tie.Else1 → tie.Start
+start t = t .before .before .before .before .before
+
 -- the lengths add up
-added : (t : tie.Else1) → let start = t .before .before .before .before .before in
-    eqb (sum (now (start .args .lengths))) (length (now (start .args .bytes))) ≡ true
+added : (t : tie.Else1) → eqb (sum (now (start t .args .lengths))) (length (now (start t .args .bytes))) ≡ true
 added t = sym (t .before .add-up .ensures) ∙ not-false _ (t .if1 .left)
 
 -- the numbers go round
-numbers : (t : tie.Else2) → t .before .before .before .before .before .before .before .args .next-packet-num + packetsFor (t .before .smaller .result) ≤ largest
+numbers : (t : tie.Else2) → start (t .before .before) .args .next-packet-num + packetsFor (t .before .smaller .result) ≤ largest
 unfolding payloadSize
 numbers t = omega (arith, t .if2 .left)
-
-add-up-requires : tie.Need-add-up-requires
-add-up-requires c κs = search needs
 
 returns : tie.Need-returns
 returns c = malformed _ _ _ _ _ _ _ (sym (c .before .add-up .ensures) ∙ not-true _ (c .if1 .taken))
 
-smaller-requires : tie.Need-smaller-requires
-smaller-requires c κs = search needs
-
-sub-p : tie.Need-sub-p
-sub-p c = search needs
-
-add-p : tie.Need-add-p
-add-p c = search needs
-
-sub-if2 : tie.Need-sub-if2
-sub-if2 c = search needs
-
 returns-2 : tie.Need-returns-2
 unfolding payloadSize
 returns-2 c = exhausted _ _ _ _ _ _ _ (added (c .before .before)) (c .before .smaller .ensures) (omega (arith, c .if2 .taken))
-
-mul-if3 : tie.Need-mul-if3
-mul-if3 c = search needs
-
-add-if3 : tie.Need-add-if3
-add-if3 c = search needs
 
 returns-3 : tie.Need-returns-3
 unfolding payloadSize
@@ -69,18 +50,8 @@ unfolding payloadSize
 write-packets-requires c κs =
     let room = c .before .before in
     let t = room .before .before in
-    let start = t .before .before .before .before .before .before in
-    let long : length (take (t .smaller .result) (now (start .args .bytes))) ≡ t .smaller .result = length-take-le _ _ (omega (arith, t .smaller .ensures)) in
+    let long : length (take (t .smaller .result) (now (start (t .before) .args .bytes))) ≡ t .smaller .result = length-take-le _ _ (omega (arith, t .smaller .ensures)) in
     rw long (numbers (room .before), room .if3 .left)
-
-removed-up-to-requires : tie.Need-removed-up-to-requires
-removed-up-to-requires c κs = search needs
-
-add-t16 : tie.Need-add-t16
-add-t16 c = search needs
-
-same-length : tie.Need-same-length
-same-length c = search needs
 
 returns-4 : tie.Need-returns-4
 unfolding payloadSize
@@ -94,20 +65,6 @@ returns-4 c =
 pub consume-data-up-to-spec : {M : Type 1} → statement M
 consume-data-up-to-spec =
     tie.close
-    (tie.spec
-    add-up-requires
-    returns
-    smaller-requires
-    sub-p
-    add-p
-    sub-if2
-    returns-2
-    mul-if3
-    add-if3
-    returns-3
-    slice-aggregate-write-packets
-    write-packets-requires
-    removed-up-to-requires
-    add-t16
-    same-length
-    returns-4)
+    (tie.spec (λ c κs. search needs) returns (λ c κs. search needs) (λ c. search needs) (λ c. search needs) (λ c. search needs) returns-2
+    (λ c. search needs) (λ c. search needs) returns-3 slice-aggregate-write-packets write-packets-requires (λ c κs. search needs) (λ c. search needs)
+    (λ c. search needs) returns-4)

@@ -20,38 +20,11 @@ abbrev μ-loop : tie.MeasureT-loop
 loop-holds : tie.Need-loop-holds Inv-loop μ-loop
 loop-holds c = omega (arith, announced-first (now (c .before .args .datagram)))
 
-sub-loop : tie.Need-sub-loop Inv-loop μ-loop
-sub-loop c = search needs
-
-field-at-unchecked-requires : tie.Need-field-at-unchecked-requires Inv-loop μ-loop
-field-at-unchecked-requires c κs = search needs
-
-cast-field : tie.Need-cast-field Inv-loop μ-loop
-cast-field c = search needs
-
-sub-if1 : tie.Need-sub-if1 Inv-loop μ-loop
-sub-if1 c = search needs
-
-sub-if1-2 : tie.Need-sub-if1-2 Inv-loop μ-loop
-sub-if1-2 c = search needs
-
 returns : tie.Need-returns Inv-loop μ-loop
 returns c =
     let at = c .before .before .before in
     let none = announced-short (now (at .before .before .args .datagram)) (at .loop .at) (c .before .before .loop-test .taken) (c .before .field-at-unchecked .ensures) (c .if1 .taken) in
     omega arith
-
-add-total : tie.Need-add-total Inv-loop μ-loop
-add-total c = omega arith
-
-add-at : tie.Need-add-at Inv-loop μ-loop
-add-at c = omega arith
-
-add-at-2 : tie.Need-add-at-2 Inv-loop μ-loop
-add-at-2 c = omega arith
-
-loop-less : tie.Need-loop-less Inv-loop μ-loop
-loop-less c = omega arith
 
 loop-again : tie.Need-loop-again Inv-loop μ-loop
 loop-again c =
@@ -65,19 +38,5 @@ returns-2 c = omega (arith, announced-tail (now (c .before .before .before .args
 pub payload-bytes-in-datagram-spec : {M : Type 1} → statement M
 payload-bytes-in-datagram-spec =
     tie.close
-    (tie.spec
-    Inv-loop
-    μ-loop
-    loop-holds
-    sub-loop
-    field-at-unchecked-requires
-    cast-field
-    sub-if1
-    sub-if1-2
-    returns
-    add-total
-    add-at
-    add-at-2
-    loop-less
-    loop-again
-    returns-2)
+    (tie.spec Inv-loop μ-loop loop-holds (λ c. search needs) (λ c κs. search needs) (λ c. search needs) (λ c. search needs)
+    (λ c. search needs) returns (λ c. omega arith) (λ c. omega arith) (λ c. omega arith) (λ c. omega arith) loop-again returns-2)

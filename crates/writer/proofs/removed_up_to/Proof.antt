@@ -12,9 +12,6 @@ use Rattle.writer.proofs.removed_up_to.Tie as tie
 returns : tie.Need-returns
 returns c = simp (lt-ltb _ _ (c .if1 .taken))
 
-removed-with-requires : tie.Need-removed-with-requires
-removed-with-requires c κs = search needs
-
 returns-2 : tie.Need-returns-2
 returns-2 c =
     let start = c .before .before .before .before in
@@ -22,4 +19,5 @@ returns-2 c =
     simp (le-ltb _ _ (c .before .if1 .left), z) (c .removed-with .ensures)
 
 pub removed-up-to-spec : {M : Type 1} → statement M
-removed-up-to-spec = tie.close (tie.spec returns removed-with-requires returns-2)
+removed-up-to-spec =
+    tie.close (tie.spec returns (λ c κs. search needs) returns-2)

@@ -25,12 +25,6 @@ more t = ltb-true _ _ (t .if1 .taken)
 loop-holds : tie.Need-loop-holds Inv-loop μ-loop
 loop-holds c = (omega arith, rw zero-add)
 
-mul-entry : tie.Need-mul-entry Inv-loop μ-loop
-mul-entry c = search needs
-
-shared-slice-read-entry : tie.Need-shared-slice-read-entry Inv-loop μ-loop
-shared-slice-read-entry c = search needs
-
 cast-entry : tie.Need-cast-entry Inv-loop μ-loop
 cast-entry c = omega (arith, c .shared-slice-known .given (c .before .before .before .loop .i))
 
@@ -38,9 +32,6 @@ returns : tie.Need-returns Inv-loop μ-loop
 returns c =
     let at = c .before .before .before .before in
     sym (removal-stops _ _ _ (more (c .before .before)) (c .if2 .taken)) ∙ at .loop .inv .1
-
-add-i : tie.Need-add-i Inv-loop μ-loop
-add-i c = omega arith
 
 loop-less : tie.Need-loop-less Inv-loop μ-loop
 loop-less c = omega (arith, more (c .before .before))
@@ -60,16 +51,5 @@ returns-3 c = sym (removal-used _ _ _ (c .loop-test .left)) ∙ c .before .loop 
 pub removed-with-spec : {M : Type 1} → statement M
 removed-with-spec =
     tie.close
-    (tie.spec
-    Inv-loop
-    μ-loop
-    loop-holds
-    mul-entry
-    shared-slice-read-entry
-    cast-entry
-    returns
-    add-i
-    loop-less
-    loop-again
-    returns-2
+    (tie.spec Inv-loop μ-loop loop-holds (λ c. search needs) (λ c. search needs) cast-entry returns (λ c. omega arith) loop-less loop-again returns-2
     returns-3)

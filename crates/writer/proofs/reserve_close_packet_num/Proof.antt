@@ -7,11 +7,9 @@ use Rattle.writer.proofs.reserve_close_packet_num.Tie as tie
 returns : tie.Need-returns
 returns c = simp (le-leb _ _ (c .if1 .taken))
 
-add-t4 : tie.Need-add-t4
-add-t4 c = search needs
-
 returns-2 : tie.Need-returns-2
 returns-2 c = simp (lt-leb _ _ (c .if1 .left))
 
 pub reserve-close-packet-num-spec : {M : Type 1} → statement M
-reserve-close-packet-num-spec = tie.close (tie.spec returns add-t4 returns-2)
+reserve-close-packet-num-spec =
+    tie.close (tie.spec returns (λ c. search needs) returns-2)

@@ -17,26 +17,11 @@ Inv-loop lengths total₀ i₀ total i = (i ≤ length lengths) × (total ≤ 42
 abbrev μ-loop : tie.MeasureT-loop
 μ-loop lengths total₀ i₀ total i = length lengths - i
 
-loop-holds : tie.Need-loop-holds Inv-loop μ-loop
-loop-holds c = omega arith
-
-mul-total : tie.Need-mul-total Inv-loop μ-loop
-mul-total c = search needs
-
-shared-slice-read-total : tie.Need-shared-slice-read-total Inv-loop μ-loop
-shared-slice-read-total c = search needs
-
 cast-total : tie.Need-cast-total Inv-loop μ-loop
 cast-total c = omega (arith, c .shared-slice-known .given (c .before .before .loop .i))
 
 add-total : tie.Need-add-total Inv-loop μ-loop
 add-total c = omega (arith, c .shared-slice-known .given (c .before .before .loop .i))
-
-add-i : tie.Need-add-i Inv-loop μ-loop
-add-i c = omega arith
-
-loop-less : tie.Need-loop-less Inv-loop μ-loop
-loop-less c = omega arith
 
 loop-again : tie.Need-loop-again Inv-loop μ-loop
 loop-again c =
@@ -49,15 +34,5 @@ returns c = omega (arith, sum-end (now (c .before .before .args .lengths)) (c .b
 pub sum-of-spec : {M : Type 1} → statement M
 sum-of-spec =
     tie.close
-    (tie.spec
-    Inv-loop
-    μ-loop
-    loop-holds
-    mul-total
-    shared-slice-read-total
-    cast-total
-    add-total
-    add-i
-    loop-less
-    loop-again
-    returns)
+    (tie.spec Inv-loop μ-loop (λ c. omega arith) (λ c. search needs) (λ c. search needs) cast-total add-total (λ c. omega arith) (λ c. omega arith)
+    loop-again returns)

@@ -16,15 +16,6 @@ Inv-loop lengths total left₀ i₀ left i = (i ≤ length lengths) × (sum leng
 abbrev μ-loop : tie.MeasureT-loop
 μ-loop lengths total left₀ i₀ left i = length lengths - i
 
-loop-holds : tie.Need-loop-holds Inv-loop μ-loop
-loop-holds c = omega arith
-
-mul-entry : tie.Need-mul-entry Inv-loop μ-loop
-mul-entry c = search needs
-
-shared-slice-read-entry : tie.Need-shared-slice-read-entry Inv-loop μ-loop
-shared-slice-read-entry c = search needs
-
 cast-entry : tie.Need-cast-entry Inv-loop μ-loop
 cast-entry c = omega (arith, c .shared-slice-known .given (c .before .before .loop .i))
 
@@ -33,12 +24,6 @@ returns c =
     let at = c .before .before .before in
     let next = sum-next (now (at .before .args .lengths)) (at .loop .i) (c .before .before .loop-test .taken) in
     too-many _ _ _ _ (at .loop .inv .1) (omega arith)
-
-add-i : tie.Need-add-i Inv-loop μ-loop
-add-i c = omega arith
-
-loop-less : tie.Need-loop-less Inv-loop μ-loop
-loop-less c = omega arith
 
 loop-again : tie.Need-loop-again Inv-loop μ-loop
 loop-again c =
@@ -52,15 +37,5 @@ returns-2 c =
 pub use-up-spec : {M : Type 1} → statement M
 use-up-spec =
     tie.close
-    (tie.spec
-    Inv-loop
-    μ-loop
-    loop-holds
-    mul-entry
-    shared-slice-read-entry
-    cast-entry
-    returns
-    add-i
-    loop-less
-    loop-again
-    returns-2)
+    (tie.spec Inv-loop μ-loop (λ c. omega arith) (λ c. search needs) (λ c. search needs) cast-entry returns (λ c. omega arith) (λ c. omega arith)
+    loop-again returns-2)

@@ -23,12 +23,6 @@ abbrev μ-loop : tie.MeasureT-loop
 loop-holds : tie.Need-loop-holds Inv-loop μ-loop
 loop-holds c = (omega arith, record { same = refl; room = omega arith; numbers = omega arith; goal = refl })
 
-sub-smaller : tie.Need-sub-smaller Inv-loop μ-loop
-sub-smaller c = search needs
-
-smaller-requires : tie.Need-smaller-requires Inv-loop μ-loop
-smaller-requires c κs = search needs
-
 -- what is left, the next payload's size, and what is known of it
 abbrev left : tie.At-loop Inv-loop μ-loop → List ℕ
 left k = drop (k .loop .from) (now (k .before .before .before .args .taken))
@@ -81,7 +75,8 @@ loop-again c =
     let t = wrote .before .before in
     let f = fits t in
     let k = t .before .before in
-    (omega arith, rw (sym (drop-drop (t .smaller .result) (k .loop .from) (now (k .before .before .before .args .taken)))) (written-next (k .loop .inv .1) (t .smaller .result) (some t) (size t) (wrote .write-packet .ensures)))
+    let next = written-next (k .loop .inv .1) (t .smaller .result) (some t) (size t) (wrote .write-packet .ensures) in
+    (omega arith, rw (sym (drop-drop (t .smaller .result) (k .loop .from) (now (k .before .before .before .args .taken)))) next)
 
 same-length : tie.Need-same-length Inv-loop μ-loop
 same-length c = c .before .loop .inv .1 .same
@@ -92,18 +87,5 @@ returns c = written-all (c .before .loop .inv .1) (rw length-drop (omega (arith,
 pub write-packets-spec : {M : Type 1} → statement M
 write-packets-spec =
     tie.close
-    (tie.spec
-    Inv-loop
-    μ-loop
-    loop-holds
-    sub-smaller
-    smaller-requires
-    write-packet-requires
-    add-from
-    add-at
-    add-at-2
-    add-number
-    loop-less
-    loop-again
-    same-length
-    returns)
+    (tie.spec Inv-loop μ-loop loop-holds (λ c. search needs) (λ c κs. search needs) write-packet-requires add-from add-at add-at-2 add-number loop-less
+    loop-again same-length returns)

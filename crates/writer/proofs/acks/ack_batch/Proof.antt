@@ -12,15 +12,6 @@ use Rattle.writer.proofs.acks.ack_batch.Tie as tie
 abbrev taking : tie.Start → ℕ → AckBatch
 taking s k = record { ring = s .args .ring; taken = k; used = s .args .used; «src_conn_id» = s .args .src-conn-id; «dst_conn_id» = s .args .dst-conn-id }
 
-decide-requires : tie.Need-decide-requires
-decide-requires c κs = search needs
-
-enum-known-k : tie.Need-enum-known-k
-enum-known-k c = search needs
-
-enum-known-r : tie.Need-enum-known-r
-enum-known-r c = search needs
-
 returns : tie.Need-returns
 returns c =
     let decided = c .before .before .before in
@@ -38,4 +29,5 @@ returns-2 c =
     ap (taking start) (sym (failed-at (ackCount (a .ring) (a .used)) (λ n. 0) (ackCount (a .ring) (a .used)) (ackChecks (a .ring) (a .capacity) (a .used) (a .room) (a .over)) e))
 
 pub ack-batch-spec : {M : Type 1} → statement M
-ack-batch-spec = tie.close (tie.spec decide-requires enum-known-k enum-known-r returns returns-2)
+ack-batch-spec =
+    tie.close (tie.spec (λ c κs. search needs) (λ c. search needs) (λ c. search needs) returns returns-2)

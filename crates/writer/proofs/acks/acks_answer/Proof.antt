@@ -6,35 +6,27 @@ use Rattle.refusal.specs.Said.{answers, refuses}
 use Rattle.ring_buffer.specs.Ring.{popped}
 use Rattle.ring_buffer.proofs.Positions.{popped-by-is}
 use Rattle.writer.specs.Acks.{ackCount, ackChecks, packed}
-use Rattle.writer.specs.AckSteps.{verdictSays, decided, saying, leaving}
+use Rattle.writer.specs.AckSteps.{verdictSays, decided, Answers}
 use Rattle.writer.specs.declared.acks.AcksPacked.{AcksPacked}
+use Rattle.writer.specs.declared.acks.AcksAnswer.the-variants.{Packed}
 use Rattle.writer.proofs.AckCount.{count-fits, count-queued}
 use Rattle.writer.proofs.AckChecks.{failed-at, ring-well, pack-fine, pack-count, pack-room, packs, packed-empty, packed-some}
 use Rattle.writer.proofs.acks.acks_answer.Statement.{statement}
 use Rattle.writer.proofs.acks.acks_answer.Tie as tie
 
-decide-requires : tie.Need-decide-requires
-decide-requires c κs = search needs
-
-enum-known-r : tie.Need-enum-known-r
-enum-known-r c = search needs
-
-enum-known-k : tie.Need-enum-known-k
-enum-known-k c = search needs
-
-popped-by-requires : tie.Need-popped-by-requires
-popped-by-requires c κs = search needs
+abbrev start : tie.After-popped-by → tie.Start
+start t = t .before .before .before .before .before
 
 -- what the verdict was
-told : (t : tie.After-popped-by) → let a = t .before .before .before .before .before .args in
+told : (t : tie.After-popped-by) → let a = start t .args in
     answers (t .before .before .k .given .0 .0) ≡ decided (a .ring) (a .capacity) (a .used) (a .room) (a .over)
 told t = ap verdictSays (sym (t .before .before .k .given .1)) ∙ t .before .before .before .before .decide .ensures
 
 -- the two parts, once the record that is answered is known
-answered : (t : tie.After-popped-by) {p : AcksPacked} → let a = t .before .before .before .before .before .args in
-    p ≡ packed (a .ring) (a .used) → (answers p ≡ saying (a .ring) (a .capacity) (a .used) (a .room) (a .over)) × (t .popped-by .result ≡ leaving (a .ring) (a .capacity) (a .used) (a .room) (a .over))
+answered : (t : tie.After-popped-by) {p : AcksPacked} → let a = start t .args in
+    p ≡ packed (a .ring) (a .used) → Answers (a .ring) (a .capacity) (a .used) (a .room) (a .over) (Packed (t .popped-by .result) p)
 answered t q =
-    let a = t .before .before .before .before .before .args in
+    let a = start t .args in
     let k-is = pack-count (a .ring) (a .capacity) (a .used) (a .room) (a .over) (told t) in
     let few = count-queued (a .ring) (a .used) in
     let w = ring-well (a .ring) (a .capacity) (a .used) (a .room) (pack-fine (a .ring) (a .capacity) (a .used) (a .room) (a .over) (told t)) in (
@@ -45,15 +37,15 @@ answered t q =
 
 mul-to-send : tie.Need-mul-to-send
 mul-to-send c =
-    let a = c .before .before .before .before .before .before .args in
+    let a = start (c .before) .args in
     let few = count-fits (a .ring) (a .used) in
     record { fits = omega (arith, few, pack-count (a .ring) (a .capacity) (a .used) (a .room) (a .over) (told (c .before))) }
 
 add-to-send : tie.Need-add-to-send
 add-to-send c =
-    let start = c .before .before .before .before .before .before in
-    let a = start .args in
-    record { fits = omega (arith, start .fits .room .fits, pack-room (a .ring) (a .capacity) (a .used) (a .room) (a .over) (told (c .before))) }
+    let s = start (c .before) in
+    let a = s .args in
+    record { fits = omega (arith, s .fits .room .fits, pack-room (a .ring) (a .capacity) (a .used) (a .room) (a .over) (told (c .before))) }
 
 returns : tie.Need-returns
 returns c =
@@ -61,28 +53,20 @@ returns c =
     let a = decided .before .args in
     let e = ap verdictSays (sym (c .before .r .given .1)) ∙ decided .decide .ensures in
     let cs = ackChecks (a .ring) (a .capacity) (a .used) (a .room) (a .over) in
-    (sym (failed-at (ackCount (a .ring) (a .used)) refuses (answers (packed (a .ring) (a .used))) cs e), sym (failed-at (ackCount (a .ring) (a .used)) (λ n. a .ring) (popped (a .ring) (a .capacity) (ackCount (a .ring) (a .used))) cs e))
+    let k = ackCount (a .ring) (a .used) in
+    (sym (failed-at k refuses (answers (packed (a .ring) (a .used))) cs e), sym (failed-at k (λ n. a .ring) (popped (a .ring) (a .capacity) k) cs e))
 
 returns-2 : tie.Need-returns-2
 returns-2 c =
-    let a = c .before .before .before .before .before .before .args in
+    let a = start (c .before) .args in
     answered (c .before) (packed-empty (a .ring) (a .capacity) (a .used) (a .room) (a .over) (told (c .before)) (c .if1 .taken))
 
 returns-3 : tie.Need-returns-3
 returns-3 c =
-    let a = c .before .before .before .before .before .before .args in
+    let a = start (c .before) .args in
     answered (c .before) (packed-some (a .ring) (a .capacity) (a .used) (a .room) (a .over) (told (c .before)) (c .if1 .left))
 
 pub acks-answer-spec : {M : Type 1} → statement M
 acks-answer-spec =
     tie.close
-    (tie.spec
-    decide-requires
-    enum-known-r
-    enum-known-k
-    popped-by-requires
-    mul-to-send
-    add-to-send
-    returns
-    returns-2
-    returns-3)
+    (tie.spec (λ c κs. search needs) (λ c. search needs) (λ c. search needs) (λ c κs. search needs) mul-to-send add-to-send returns returns-2 returns-3)

@@ -6,9 +6,6 @@ use Rattle.writer.proofs.AckCount.{count-none, count-all, count-limit}
 use Rattle.writer.proofs.acks.acks_due.Statement.{statement}
 use Rattle.writer.proofs.acks.acks_due.Tie as tie
 
-is-malformed-requires : tie.Need-is-malformed-requires
-is-malformed-requires c κs = search needs
-
 returns : tie.Need-returns
 returns c = simp (sym (c .before .is-malformed .ensures) ∙ c .if1 .taken)
 
@@ -34,4 +31,5 @@ returns-4 c =
     rw (sym (tested .before .is-malformed .ensures) ∙ tested .if1 .left) (sym (count-limit (start .ring) (start .used) (c .if3 .left)))
 
 pub acks-due-spec : {M : Type 1} → statement M
-acks-due-spec = tie.close (tie.spec is-malformed-requires returns returns-2 returns-3 returns-4)
+acks-due-spec =
+    tie.close (tie.spec (λ c κs. search needs) returns returns-2 returns-3 returns-4)

@@ -2,35 +2,26 @@
 -- slice to `record_at`. Assumes nothing.
 use mathlib.Core.Path.{_≡_, refl, sym, _∙_}
 use Prim.Native.Nat.{ℕ, _+_, _<_, _^_, zero-le}
-use native.Mathlib.Nat.{le-antisymm, lt-of-le-of-lt}
-use native.Mathlib.Numerals.{add-one-le, add-one-dec}
-use native.Mathlib.Omega.{arith}
-use mathlib.Core.Bool.{Bool, true, false, _||_}
-use mathlib.Core.List.{[], _∷_, List}
-use lib.ListN.{length, getD}
-use lib.Dec.{ltb, lit<}
+use native.Mathlib.{Nat.le-antisymm, Nat.lt-of-le-of-lt, Numerals.add-one-le, Numerals.add-one-dec, Omega.arith}
+use mathlib.Core.{Bool.Bool, Bool.true, Bool.false, Bool._||_, List.[], List._∷_, List.List}
+use lib.{ListN.length, ListN.getD, Dec.ltb, Dec.lit<}
 use borrow.Author.Tests.{ltb-true, ltb-false}
 use denote.Struct.Laws as LL
-use Rattle.ring_buffer.specs.Ring.{blank, contents}
-use Rattle.ring_buffer.specs.Places.{slotOf}
-use Rattle.ring_buffer.specs.declared.AckData.{AckData}
-use Rattle.ring_buffer.specs.declared.RingBuffer.{RingBuffer}
-use Rattle.ring_buffer.proofs.Positions.{slot-queued}
-use Rattle.ring_buffer.proofs.Record.{R, ringv}
+use Rattle.ring_buffer.specs.{Ring.blank, Ring.contents, Places.slotOf, declared.AckData.AckData, declared.RingBuffer.RingBuffer}
+use Rattle.ring_buffer.proofs.{Positions.slot-queued, Record.R, Record.ringv}
 use Rattle.ring_buffer.proofs.AckData as T
 use Rattle.ring_buffer.proofs.RingBuffer as G
 use Rattle.ring_buffer.proofs.slot as slot
 use Rattle.ring_buffer.proofs.record_at as rec
-use Rattle.writer.specs.Acks.{tooLarge}
-use Rattle.writer.specs.AckSteps.{Scanned}
+use Rattle.writer.specs.{Acks.tooLarge, AckSteps.Scanned}
 use Rattle.writer.proofs.AckTurns.{scanned-none, scanned-next}
-use Rattle.writer.proofs.Walking.{URA, named, w64, Val, vint, vbool, SProp, ent, sep, emp, id⊢, via, fst∗, Fml, Lft, Share, ftrue, flft, Memory, Routine, Heap, Out, Env, afterSeq, afterBlock}
-use Rattle.writer.proofs.Walking.{afterTurn, Calls, Wp, atReturn, WpFn, Tables, Atoms, sem, Fun, tables, tablesOf, givenOf, Given, Item, ‵, raw, _⊛_, ⋆, Sq, runs, anyQ, atRet, _$_, _∵_, ! }
-use Rattle.writer.proofs.Walking.{qed, by, move, keep, drop, use1, use2, split, join, fsplit, fjoin, suffices, frame, done, init, store, forget, stop, fld, from, load, look, lit, false-lit}
+use Rattle.writer.proofs.Walking.{URA, named, w64, Val, vint, vbool, SProp, ent, emp, id⊢, via, fst∗, Fml, Lft, Share, ftrue, flft, Memory, Routine, Heap, Out, Env, afterSeq, afterBlock}
+use Rattle.writer.proofs.Walking.{afterTurn, Calls, Wp, atReturn, WpFn, Tables, Atoms, Fun, tables, tablesOf, givenOf, Given, Item, ‵, raw, _⊛_, ⋆, Sq, runs, anyQ, atRet, _$_, _∵_, !, qed}
+use Rattle.writer.proofs.Walking.{by, move, keep, drop, use1, use2, split, join, fsplit, fjoin, suffices, frame, done, init, store, forget, stop, fld, from, load, look, lit, false-lit}
 use Rattle.writer.proofs.Walking.{of-opd, bin, and-then, no-more, assigns-last, first, blocks, exec, Below, again, loops, returns, enter, allocs-all, params1, pass1, pass0, whole, sub}
 use Rattle.writer.proofs.Walking.{look-in, FmC, fmOf, owns, Is, uint-vals, uint-tells, bool, usize, RefT, ShrSlice, Room, slice-vals, shr-slice-tells, shr-slice-copy, plain, owned, nothing}
 use Rattle.writer.proofs.Walking.{Triple, onEntry, cited, says, Stays, stay-none-slice, stay-none, walkOf, goes-none-slice, goes-none, Walks, ends-at, walked, yes, Cell, bare, full, held}
-use Rattle.writer.proofs.Walking.{blocks-of, of-local, sets, gets, frees-held, stays-if, leaves-if, Kind, a-number, a-flag, a-struct, Called, calls-by, calls-value, lent-in, in-memory, Upto}
+use Rattle.writer.proofs.Walking.{blocks-of, of-local, sets, gets, frees-held, stays-if, leaves-if, Kind, a-word, a-flag, a-struct, Called, calls-by, calls-value, lent-in, in-memory, Upto}
 use Rattle.writer.proofs.Walking.{Nearer, Nearer-wf, meets-by}
 use Rattle.writer.proofs.acks.over_with as ovr
 use Rattle.writer.proofs.acks.any_too_large as self
@@ -52,14 +43,8 @@ module _ {M : Type 1} (𝓤 : URA M) (H : Heap 𝓤) (A : Atoms 𝓤) (W : Given
   abbrev ys : List AckData
   ys = x .now
 
-  abbrev n : ℕ
-  n = length ys
-
   head-fits : g .head < 2 ^ 64
   head-fits = LL.owed G.the-type G.Laws.the-laws g _ g-is .0 .1
-
-  abbrev a-word : Kind 𝓤 H A usize
-  a-word = a-number W w64
 
   abbrev an-ack : Kind 𝓤 H A R
   an-ack = a-struct W T.the-type T.Laws.the-laws T.Laws.the-plain
@@ -77,7 +62,7 @@ module _ {M : Type 1} (𝓤 : URA M) (H : Heap 𝓤) (A : Atoms 𝓤) (W : Given
   exits r e =
       qed W (‵ Own ∷ ‵ (flft κ q) ∷ []) ∵
       suffices ! _ (ends-at 𝓤 H A self.ended stayed (self.clauses 𝓤 H A mem run) W passed (vbool r) r (tt, (tt, (tt, tt))) (tt, (tt, (tt, tt)))) $ says ! e $
-      nothing ! $ move ! (2 ∷ 0 ∷ []) $ join ! $ frame ! $ nothing ! $ owned ! usize (Is usize) (a-word .makes) k _ (refl, k-fits) $ fjoin ! $
+      nothing ! $ move ! (2 ∷ 0 ∷ []) $ join ! $ frame ! $ nothing ! $ owned ! usize (Is usize) (a-word W .makes) k _ (refl, k-fits) $ fjoin ! $
       owned ! G.the-row (Is G.the-row) (LL.makes G.the-type G.Laws.the-plain 𝓤 H A) g _ g-is $ fjoin ! $ move ! (1 ∷ 0 ∷ []) $ fjoin ! $
       owned ! bool (Is bool) (a-flag W .makes) r _ refl $ move ! (1 ∷ 0 ∷ []) $ done !
 
@@ -89,9 +74,6 @@ module _ {M : Type 1} (𝓤 : URA M) (H : Heap 𝓤) (A : Atoms 𝓤) (W : Given
   abbrev to-rec : ℕ → Called 𝓤 H A rec.ended (rec.clauses 𝓤 H A mem run) .Ghost
   to-rec j = (((κ, tt), (q, tt), tt, (x, (j, tt)), (in-memory x ∷ [], (vint w64 j ∷ [], tt))), tt)
 
-  goes-rec : (j : ℕ) → j < 2 ^ 64 → ent 𝓤 (sep 𝓤 (A .lft κ q) (sem 𝓤 H A Own)) (Called 𝓤 H A rec.ended (rec.clauses 𝓤 H A mem run) .pre (to-rec j))
-  goes-rec j j-fits = lent-in 𝓤 H A (usize ∷ []) (a-word, tt) (j, tt) ((refl, j-fits), tt) (A .lft κ q) (emp 𝓤) Own (id⊢ 𝓤 (emp 𝓤))
-
   module _ (𝓣 : Tables 𝓤 H) (knows : Knows 𝓤 H A mem run (𝓣 .C)) where
     open Tables 𝓣 using (C, Λ)
 
@@ -102,7 +84,7 @@ module _ {M : Type 1} (𝓤 : URA M) (H : Heap 𝓤) (A : Atoms 𝓤) (W : Given
       -- the locals at a turn: the result, and those behind i
       abbrev cells : Cell → Upto k Found → List Cell → List Cell
       cells r i cs =
-          r ∷ full (in-memory x) ∷ full (ringv g) ∷ full (vint w64 k) ∷ full (vint w64 n) ∷ full (vint w64 (g .head)) ∷ full (vbool (i .1 .1 .0)) ∷ full (vint w64 (i .0)) ∷ cs
+          r ∷ full (in-memory x) ∷ full (ringv g) ∷ full (vint w64 k) ∷ full (vint w64 (length ys)) ∷ full (vint w64 (g .head)) ∷ full (vbool (i .1 .1 .0)) ∷ full (vint w64 (i .0)) ∷ cs
 
       -- the loop's invariant
       abbrev At : Upto k Found → List (Item 𝓤)
@@ -120,13 +102,14 @@ module _ {M : Type 1} (𝓤 : URA M) (H : Heap 𝓤) (A : Atoms 𝓤) (W : Given
           let t = i .1 .1 .0 in
           let fm : FmC 𝓤 H (W .laws) C = fmOf 𝓤 H (W .laws) 𝓣 in
           sets ! (bin ! (of-local ! 8 refl) (of-local ! 16 refl) tt) (init ! 2 refl (tt, tt)) $ stays-if ! less (of-local ! 2 refl) $
-          calls-value ! fm slot.ended (slot.clauses 𝓤 H A mem run) (knows .0) tt tt tt (a-word, (a-word, (a-word, tt))) (g .head, (n, (i .0, tt))) tt a-word
-          ((refl, head-fits), ((refl, room .0), ((refl, i-fits), tt))) (id⊢ 𝓤 _) (id⊢ 𝓤 _) (λ j. j ≡ slotOf (g .head) n (i .0)) (λ j e. id⊢ 𝓤 _)
+          calls-value ! fm slot.ended (slot.clauses 𝓤 H A mem run) (knows .0) tt tt tt (a-word W, (a-word W, (a-word W, tt))) (g .head, (length ys, (i .0, tt))) tt (a-word W)
+          ((refl, head-fits), ((refl, room .0), ((refl, i-fits), tt))) (id⊢ 𝓤 _) (id⊢ 𝓤 _) (λ j. j ≡ slotOf (g .head) (length ys) (i .0)) (λ j e. id⊢ 𝓤 _)
           (and-then ! (of-local ! 13 refl) (and-then ! (of-local ! 15 refl) (and-then ! (of-local ! 9 refl) (no-more !)))) (λ j sj is-j.
-          gets ! (init ! 6 refl (a-word .lawful .typed j _ is-j .0)) $
+          gets ! (init ! 6 refl (a-word W .lawful .typed j _ is-j .0)) $
           -- one copy of the slice is passed on to `record_at`, the other kept
           use1 W (‵ Own ⊛ ‵ Own) (shr-slice-copy 𝓤 H A W (named 0) κ R .twice x (in-memory x ∷ [])) $ split ! $ move ! (2 ∷ 0 ∷ []) $
-          use2 W (raw (Called 𝓤 H A rec.ended (rec.clauses 𝓤 H A mem run) .pre (to-rec j))) (goes-rec j (is-j .1)) $
+          use2 W (raw (Called 𝓤 H A rec.ended (rec.clauses 𝓤 H A mem run) .pre (to-rec j)))
+          (lent-in 𝓤 H A (usize ∷ []) (a-word W, tt) (j, tt) (is-j, tt) (A .lft κ q) (emp 𝓤) Own (id⊢ 𝓤 (emp 𝓤))) $
           calls-by ! fm rec.ended (rec.clauses 𝓤 H A mem run) (knows .1) (to-rec j) an-ack (λ r ws. r ≡ getD ys j blank) (λ r ws. id⊢ 𝓤 _)
           (and-then ! (of-local ! 20 refl) (and-then ! (of-local ! 6 refl) (no-more !))) (λ r ws er is-r.
           -- [the token and true; the last values; the slice; _10; …]
@@ -135,7 +118,7 @@ module _ {M : Type 1} (𝓤 : URA M) (H : Heap 𝓤) (A : Atoms 𝓤) (W : Given
           calls-value ! fm ovr.ended (ovr.clauses 𝓤 H A mem run) (knows .2) tt tt tt (a-flag W, (an-ack, tt)) (t, (r, tt)) tt (a-flag W)
           (refl, (is-r, tt)) (id⊢ 𝓤 _) (id⊢ 𝓤 _) (λ z. z ≡ (t || tooLarge r)) (λ z e. id⊢ 𝓤 _)
           (and-then ! (of-local ! 11 refl) (and-then ! (of-local ! 5 refl) (no-more !))) (λ z ez is-z.
-          let found : Scanned g ys (i .0 + 1) z = λ w few. scanned-next g ys w (i .0) j (omega arith) (sj ∙ slot-queued g n w (i .0) (omega arith)) er (i .1 .1 .1 w (omega arith)) ez in
+          let found : Scanned g ys (i .0 + 1) z = λ w few. scanned-next g ys w (i .0) j (omega arith) (sj ∙ slot-queued g (length ys) w (i .0) (omega arith)) er (i .1 .1 .1 w (omega arith)) ez in
           gets ! (store ! 10 refl (a-flag W .lawful .typed z _ is-z .0)) $
           assigns-last ! (bin ! (of-local ! 8 refl) (lit ! tt) (record { fits = next-fits })) (from ! (stop !)) (store ! 8 refl (tt, record { fits = next-fits })) $
           forget ! 2 refl $ forget ! 4 refl $ forget ! 6 refl $ again ! (Nearer k Found) At i (i .0 + 1, (add-one-le lt, (z, found))) (add-one-dec k (i .0) lt))))

@@ -13,12 +13,12 @@ use Rattle.writer.specs.{AckSteps.due, AckSteps.batch, AckSteps.Scanned,
 use Rattle.writer.specs.declared.acks.{AckBatch.AckBatch, AcksAnswer.AcksAnswer}
 use Rattle.writer.proofs.AckPacking.{packable, outcome-is}
 use Rattle.writer.proofs.Walking.{URA, fullShare, named, w32, w64, Val, vunit, vint, vbool, SProp, ent, sep, emp, id⊢, via, fst∗, Fml, GName, Lft, Share, ftrue, flft, Memory, Routine, Heap}
-use Rattle.writer.proofs.Walking.{Env, Calls, WpFn, Tables, Atoms, sem, Fun, tables, tablesOf, givenOf, AllOutlive, Given, Item, ‵, raw, _⊛_, some, later, ⋆, Sq, runs, atRet, _$_, _∵_, ! }
-use Rattle.writer.proofs.Walking.{qed, by, move, keep, drop, use1, use2, split, join, group, pick, fsplit, fjoin, feqL, suffices, frame, await, done, look, init, forget, stop, hop, fld, from}
-use Rattle.writer.proofs.Walking.{load, addr, of-opd, and-then, no-more, returns, enter, allocs-all, params1, pass1, pass0, agg, whole, sub, look-in, lft-new, lft-end, FmC, fmOf, owns, Is}
+use Rattle.writer.proofs.Walking.{Env, Calls, WpFn, Tables, Atoms, Fun, tables, tablesOf, givenOf, AllOutlive, Given, Item, ‵, raw, _⊛_, some, later, ⋆, Sq, runs, atRet, _$_, _∵_, !, qed, by}
+use Rattle.writer.proofs.Walking.{move, keep, drop, use1, use2, split, join, group, pick, fsplit, fjoin, feqL, suffices, frame, await, done, look, init, forget, stop, hop, fld, from, load}
+use Rattle.writer.proofs.Walking.{addr, of-opd, and-then, no-more, returns, enter, allocs-all, params1, pass1, pass0, agg, whole, sub, look-in, lft-new, lft-end, FmC, fmOf, owns, Is}
 use Rattle.writer.proofs.Walking.{uint-vals, uint-tells, u8, u32, usize, RefT, MutSlice, ShrSlice, Room, finally, slice-vals, mut-slice-tells, plain, owned, nothing, Triple, onEntry, cited}
 use Rattle.writer.proofs.Walking.{says, Stays, gave-slice, stay-none, goes-gave-slice, goes-none, walkOf, Walks, ends-at, walked, yes, Cell, bare, full, held, blocks-of, of-local, sets, gets}
-use Rattle.writer.proofs.Walking.{frees-held, Kind, a-number, a-flag, a-unit, a-struct, an-enum, relent, in-memory, Called, calls-by, calls-value, lent-in, meets-by}
+use Rattle.writer.proofs.Walking.{frees-held, Kind, a-number, a-word, a-flag, a-unit, a-struct, an-enum, relent, in-memory, Called, calls-by, calls-value, lent-in, meets-by}
 use Rattle.writer.proofs.acks.AckBatch as P
 use Rattle.writer.proofs.acks.AcksAnswer as X
 use Rattle.writer.proofs.acks.acks_due as due′
@@ -57,9 +57,6 @@ module _ {M : Type 1} (𝓤 : URA M) (H : Heap 𝓤) (A : Atoms 𝓤) (W : Given
 
   abbrev os : List ℕ
   os = x₂ .now
-
-  abbrev a-word : Kind 𝓤 H A usize
-  a-word = a-number W w64
 
   abbrev a-half : Kind 𝓤 H A u32
   a-half = a-number W w32
@@ -104,16 +101,11 @@ module _ {M : Type 1} (𝓤 : URA M) (H : Heap 𝓤) (A : Atoms 𝓤) (W : Given
       qed W (Left zs ws) ∵ suffices ! _ (ends-at 𝓤 H A self.ended stayed (self.clauses 𝓤 H A mem run) W passed (an-answer .val r) r
       (tt, (zs, (tt, (tt, (tt, (ws, tt)))))) (tt, (len₁, (tt, (tt, (tt, (len₂, tt))))))) $ says ! e $ move ! (2 ∷ []) $ frame ! $
       nothing ! $ move ! (1 ∷ 0 ∷ []) $ fjoin ! $ owned ! u32 (Is u32) (a-half .makes) dst _ (refl, dst-fits) $ fjoin ! $ owned ! u32 (Is u32) (a-half .makes) src _ (refl, src-fits) $ fjoin ! $
-      owned ! usize (Is usize) (a-word .makes) used _ (refl, used-fits) $ fjoin ! $ move ! (1 ∷ 0 ∷ []) $ fjoin ! $ owned ! G.the-row (Is G.the-row) (a-ring .makes) g _ g-is $ fjoin ! $
+      owned ! usize (Is usize) (a-word W .makes) used _ (refl, used-fits) $ fjoin ! $ move ! (1 ∷ 0 ∷ []) $ fjoin ! $ owned ! G.the-row (Is G.the-row) (a-ring .makes) g _ g-is $ fjoin ! $
       owned ! X.the-row (Is X.the-row) (an-answer .makes) r _ is $ move ! (1 ∷ 0 ∷ []) $ done !
 
   abbrev to-any : ℕ → GName → ℕ → Called 𝓤 H A any.ended (any.clauses 𝓤 H A mem run) .Ghost
   to-any ν δ k = (((ν ∷ [], tt), (fullShare, tt), tt, (relent x₁ δ ys, (g, (k, tt))), (in-memory x₁ ∷ [], (ringv g ∷ [], (vint w64 k ∷ [], tt)))), tt)
-
-  goes-any : (ν : ℕ) (δ : GName) (k : ℕ) → k < 2 ^ 64
-      → ent 𝓤 (sep 𝓤 (A .lft (ν ∷ []) fullShare) (sem 𝓤 H A (Shared ν δ))) (Called 𝓤 H A any.ended (any.clauses 𝓤 H A mem run) .pre (to-any ν δ k))
-  goes-any ν δ k k-fits =
-      lent-in 𝓤 H A (G.the-row ∷ usize ∷ []) (a-ring, (a-word, tt)) (g, (k, tt)) (g-is, ((refl, k-fits), tt)) (A .lft (ν ∷ []) fullShare) (emp 𝓤) (Shared ν δ) (id⊢ 𝓤 (emp 𝓤))
 
   abbrev to-dra : AckBatch → Called 𝓤 H A dra.ended (dra.clauses 𝓤 H A mem run) .Ghost
   to-dra p = (((κ₁, (κ₂, tt)), (q₁, (q₂, tt)), bounds, (x₁, (p, (x₂, tt))), (in-memory x₁ ∷ [], (a-batch .val p ∷ [], (in-memory x₂ ∷ [], tt)))), tt)
@@ -142,7 +134,7 @@ module _ {M : Type 1} (𝓤 : URA M) (H : Heap 𝓤) (A : Atoms 𝓤) (W : Given
     -- from the batch on
     second : (over : Bool) → Scanned g ys (due g (length ys) used (length os)) over → Sq W (Own ++ held En (cells bare (sized over [])) []) (runs C Λ En t-7 (atRet En Post))
     second over scan =
-        calls-value ! fm bat.ended (bat.clauses 𝓤 H A mem run) (knows .2) tt tt tt (a-ring, (a-word, (a-word, (a-half, (a-half, (a-word, (a-flag W, tt)))))))
+        calls-value ! fm bat.ended (bat.clauses 𝓤 H A mem run) (knows .2) tt tt tt (a-ring, (a-word W, (a-word W, (a-half, (a-half, (a-word W, (a-flag W, tt)))))))
         (g, (length ys, (used, (src, (dst, (length os, (over, tt))))))) tt a-batch
         (g-is, ((refl, room₁ .0), ((refl, used-fits), ((refl, src-fits), ((refl, dst-fits), ((refl, room₂ .0), (refl, tt))))))) (id⊢ 𝓤 _) (id⊢ 𝓤 _)
         (λ p. p ≡ batch g (length ys) used src dst (length os) over) (λ p e. id⊢ 𝓤 _)
@@ -163,7 +155,7 @@ module _ {M : Type 1} (𝓤 : URA M) (H : Heap 𝓤) (A : Atoms 𝓤) (W : Given
         move ! (1 ∷ []) $ drop ! $
         -- [out's last list; records' last list; the tokens; the locals]
         gets ! (init ! 11 refl (tt, tt)) $
-        calls-value ! fm ans.ended (ans.clauses 𝓤 H A mem run) (knows .4) tt tt tt (a-ring, (a-word, (a-word, (a-word, (a-flag W, tt)))))
+        calls-value ! fm ans.ended (ans.clauses 𝓤 H A mem run) (knows .4) tt tt tt (a-ring, (a-word W, (a-word W, (a-word W, (a-flag W, tt)))))
         (g, (length ys, (used, (length os, (over, tt))))) tt an-answer (g-is, ((refl, room₁ .0), ((refl, used-fits), ((refl, room₂ .0), (refl, tt))))) (id⊢ 𝓤 _) (id⊢ 𝓤 _)
         (Answers g (length ys) used (length os) over) (λ r e. id⊢ 𝓤 _)
         (and-then ! (of-local ! 38 refl) (and-then ! (of-local ! 26 refl) (and-then ! (of-local ! 34 refl) (and-then ! (of-local ! 24 refl) (and-then ! (of-local ! 20 refl) (no-more !))))))
@@ -177,17 +169,18 @@ module _ {M : Type 1} (𝓤 : URA M) (H : Heap 𝓤) (A : Atoms 𝓤) (W : Given
     opens =
         sets ! (of-opd ! (load ! (from ! (fld ! refl (stop !))) (look-in ! 36 (sub ! 1 refl (whole !))))) (init ! 26 refl (tt, record { fits = room₁ .0 })) $
         sets ! (of-opd ! (load ! (from ! (fld ! refl (stop !))) (look-in ! 28 (sub ! 1 refl (whole !))))) (init ! 24 refl (tt, record { fits = room₂ .0 })) $
-        calls-value ! fm due′.ended (due′.clauses 𝓤 H A mem run) (knows .0) tt tt tt (a-ring, (a-word, (a-word, (a-word, tt)))) (g, (length ys, (used, (length os, tt)))) tt a-word
+        calls-value ! fm due′.ended (due′.clauses 𝓤 H A mem run) (knows .0) tt tt tt (a-ring, (a-word W, (a-word W, (a-word W, tt)))) (g, (length ys, (used, (length os, tt)))) tt (a-word W)
         (g-is, ((refl, room₁ .0), ((refl, used-fits), ((refl, room₂ .0), tt)))) (id⊢ 𝓤 _) (id⊢ 𝓤 _) (λ k. k ≡ due g (length ys) used (length os)) (λ k e. id⊢ 𝓤 _)
         (and-then ! (of-local ! 39 refl) (and-then ! (of-local ! 27 refl) (and-then ! (of-local ! 35 refl) (and-then ! (of-local ! 25 refl) (no-more !))))) (λ k ek is-k.
-        gets ! (init ! 22 refl (a-word .lawful .typed k _ is-k .0)) $
+        gets ! (init ! 22 refl (a-word W .lawful .typed k _ is-k .0)) $
         -- records is lent, shared, to `any_too_large`, and comes back
         sets ! (addr ! (from ! (fld ! refl (hop ! (look-in ! 36 (sub ! 0 refl (whole !))) (stop !))))) (init ! 16 refl (tt, tt)) $
         sets ! (agg ! (and-then ! (of-local ! 16 refl) (and-then ! (load ! (from ! (fld ! refl (stop !))) (look-in ! 36 (sub ! 1 refl (whole !)))) (no-more !))))
         (init ! 14 refl (tt, (tt, (record { fits = room₁ .0 }, tt)))) $
         lft-new ! tt (λ ν. move ! (1 ∷ 2 ∷ []) $ use2 W (later (some (λ (δ : GName). ‵ (Shared ν δ) ⊛ ‵ (LentShared R κ₁ (ν ∷ []) q₁ (x₁ .name) (x₁ .ptr .0) (x₁ .ptr .1) ys))))
         (lends-shared R κ₁ (ν ∷ []) q₁ (x₁ .name) (x₁ .ptr .0) (x₁ .ptr .1) 𝓤 H A W (named 0) (named 0) ys) $ await ! tt $ pick ! (λ δ. split ! $ move ! (2 ∷ 0 ∷ []) $
-        use2 W (raw (Called 𝓤 H A any.ended (any.clauses 𝓤 H A mem run) .pre (to-any ν δ k))) (goes-any ν δ k (is-k .1)) $
+        use2 W (raw (Called 𝓤 H A any.ended (any.clauses 𝓤 H A mem run) .pre (to-any ν δ k)))
+        (lent-in 𝓤 H A (G.the-row ∷ usize ∷ []) (a-ring, (a-word W, tt)) (g, (k, tt)) (g-is, (is-k, tt)) (A .lft (ν ∷ []) fullShare) (emp 𝓤) (Shared ν δ) (id⊢ 𝓤 (emp 𝓤))) $
         calls-by ! fm any.ended (any.clauses 𝓤 H A mem run) (knows .1) (to-any ν δ k) (a-flag W) (λ t ws. Scanned g ys k t) (λ t ws. id⊢ 𝓤 _)
         (and-then ! (of-local ! 14 refl) (and-then ! (of-local ! 38 refl) (and-then ! (of-local ! 22 refl) (no-more !)))) (λ t ws et is-t.
         use1 W (‵ (flft (ν ∷ []) fullShare) ⊛ ‵ ftrue) (id⊢ 𝓤 _) $ split ! $ lft-end ! tt $ move ! (0 ∷ 3 ∷ []) $

@@ -13,17 +13,11 @@ use Rattle.writer.proofs.acks.decide.Tie as tie
 fine : (t : tie.Else1) → malformed (t .before .before .args .ring) (t .before .before .args .capacity) (t .before .before .args .used) (t .before .before .args .room) ≡ false
 fine t = sym (t .before .is-malformed .ensures) ∙ t .if1 .left
 
-is-malformed-requires : tie.Need-is-malformed-requires
-is-malformed-requires c κs = search needs
-
 returns : tie.Need-returns
 returns c = simp (sym (c .before .is-malformed .ensures) ∙ c .if1 .taken)
 
 returns-2 : tie.Need-returns-2
 returns-2 c = simp (sym (c .before .before .is-malformed .ensures) ∙ c .before .if1 .left, c .if2 .taken)
-
-acks-due-requires : tie.Need-acks-due-requires
-acks-due-requires c κs = search needs
 
 sub-if3 : tie.Need-sub-if3
 sub-if3 c =
@@ -50,13 +44,4 @@ returns-4 c =
 
 pub decide-spec : {M : Type 1} → statement M
 decide-spec =
-    tie.close
-    (tie.spec
-    is-malformed-requires
-    returns
-    returns-2
-    acks-due-requires
-    sub-if3
-    mul-if3
-    returns-3
-    returns-4)
+    tie.close (tie.spec (λ c κs. search needs) returns returns-2 (λ c κs. search needs) sub-if3 mul-if3 returns-3 returns-4)

@@ -14,14 +14,14 @@ use Rattle.ring_buffer.proofs.AckData as T
 use Rattle.ring_buffer.proofs.swap_record as swap
 use Rattle.writer.specs.{AckSteps.AckFits, AckSteps.ackPut, AckSteps.Packable, AckSteps.Drained, declared.acks.AckBatch.AckBatch}
 use Rattle.writer.proofs.AckTurns.{cleared, filled, written-none, next-cleared, next-fits, next-written}
-use Rattle.writer.proofs.Walking.{URA, fullShare, named, w64, Val, vunit, vint, vbool, SProp, ent, sep, emp, id⊢, Fml, GName, Lft, Share, ftrue, flft, Memory, Routine, Heap, Out, Env}
-use Rattle.writer.proofs.Walking.{afterSeq, afterBlock, afterTurn, Calls, Wp, atReturn, WpFn, Tables, Atoms, sem, Fun, fact, factI, tables, tablesOf, givenOf, AllOutlive, Given, Item, ‵, raw}
-use Rattle.writer.proofs.Walking.{_⊛_, some, later, ⋆, Sq, runs, anyQ, atRet, _$_, _∵_, !, qed, by, move, keep, drop, use1, use2, use3, split, join, pick, rewrite, fsplit, fjoin, feqL, feqI}
-use Rattle.writer.proofs.Walking.{suffices, frame, await, done, look, init, store, forget, stop, hop, fld, from, load, lit, unit-lit, addr, of-opd, bin, and-then, no-more, assigns-last}
-use Rattle.writer.proofs.Walking.{first, blocks, exec, Below, again, loops, returns, enter, allocs-all, params1, pass1, pass0, agg, whole, sub, look-in, lft-new, lft-end, FmC, fmOf, owns, Is}
-use Rattle.writer.proofs.Walking.{RefT, u8, usize, MutSlice, Room, slice-vals, mut-slice-tells, plain, owned, nothing, Triple, onEntry, cited, says, needs, Stays, stay-slice, stay-none}
-use Rattle.writer.proofs.Walking.{goes-slice, goes-none, walkOf, Walks, ends-at, walked, yes, Cell, bare, full, held, blocks-of, of-local, sets, gets, frees-held, stays-if, leaves-if, Kind}
-use Rattle.writer.proofs.Walking.{a-number, a-unit, a-struct, Called, calls-by, calls-value, lent-in, relent, in-memory, Upto, Nearer, Nearer-wf, meets-by}
+use Rattle.writer.proofs.Walking.{URA, fullShare, named, w64, Val, vunit, vint, vbool, SProp, ent, emp, id⊢, Fml, GName, Lft, Share, ftrue, flft, Memory, Routine, Heap, Out, Env, afterSeq}
+use Rattle.writer.proofs.Walking.{afterBlock, afterTurn, Calls, Wp, atReturn, WpFn, Tables, Atoms, Fun, fact, factI, tables, tablesOf, givenOf, AllOutlive, Given, Item, ‵, raw, _⊛_, some}
+use Rattle.writer.proofs.Walking.{later, ⋆, Sq, runs, anyQ, atRet, _$_, _∵_, !, qed, by, move, keep, drop, use1, use2, use3, split, join, pick, rewrite, fsplit, fjoin, feqL, feqI, suffices}
+use Rattle.writer.proofs.Walking.{frame, await, done, look, init, store, forget, stop, hop, fld, from, load, lit, unit-lit, addr, of-opd, bin, and-then, no-more, assigns-last, first, blocks}
+use Rattle.writer.proofs.Walking.{exec, Below, again, loops, returns, enter, allocs-all, params1, pass1, pass0, agg, whole, sub, look-in, lft-new, lft-end, FmC, fmOf, owns, Is, RefT, u8}
+use Rattle.writer.proofs.Walking.{usize, MutSlice, Room, slice-vals, mut-slice-tells, plain, owned, nothing, Triple, onEntry, cited, says, needs, Stays, stay-slice, stay-none, goes-slice}
+use Rattle.writer.proofs.Walking.{goes-none, walkOf, Walks, ends-at, walked, yes, Cell, bare, full, held, blocks-of, of-local, sets, gets, frees-held, stays-if, leaves-if, Kind, a-word}
+use Rattle.writer.proofs.Walking.{a-unit, a-struct, Called, calls-by, calls-value, lent-in, relent, in-memory, owned-slice, Upto, Nearer, Nearer-wf, meets-by}
 use Rattle.writer.proofs.acks.AckBatch as P
 use Rattle.writer.proofs.acks.ack_slot as slot
 use Rattle.writer.proofs.acks.put_ack as put
@@ -49,20 +49,11 @@ module _ {M : Type 1} (𝓤 : URA M) (H : Heap 𝓤) (A : Atoms 𝓤) (W : Given
   abbrev os : List ℕ
   os = x₂ .now
 
-  abbrev n : ℕ
-  n = length ys
-
-  abbrev m : ℕ
-  m = length os
-
   abbrev k : ℕ
   k = p .taken
 
   k-fits : k < 2 ^ 64
   k-fits = LL.owed P.the-type P.Laws.the-laws p _ p-is .1 .0 .1
-
-  abbrev a-word : Kind 𝓤 H A usize
-  a-word = a-number W w64
 
   abbrev an-ack : Kind 𝓤 H A R
   an-ack = a-struct W T.the-type T.Laws.the-laws T.Laws.the-plain
@@ -70,21 +61,15 @@ module _ {M : Type 1} (𝓤 : URA M) (H : Heap 𝓤) (A : Atoms 𝓤) (W : Given
   abbrev a-batch : Kind 𝓤 H A P.the-row
   a-batch = a-struct W P.the-type P.Laws.the-laws P.Laws.the-plain
 
-  -- the slices, and as they are lent again under a name δ
+  -- the slices
   abbrev Mine₁ : List AckData → Fml
-  Mine₁ zs = MutSlice (named 0) κ₁ R .own (relent x₁ (x₁ .name) zs) (in-memory x₁ ∷ [])
+  Mine₁ = owned-slice R (named 0) κ₁ x₁ (x₁ .name)
 
   abbrev Mine₂ : List ℕ → Fml
-  Mine₂ ws = MutSlice (named 1) κ₂ u8 .own (relent x₂ (x₂ .name) ws) (in-memory x₂ ∷ [])
+  Mine₂ = owned-slice u8 (named 1) κ₂ x₂ (x₂ .name)
 
   abbrev Own : List AckData → List ℕ → List (Item 𝓤)
   Own zs ws = ‵ (Mine₁ zs) ∷ ‵ (flft κ₁ q₁) ∷ ‵ (Mine₂ ws) ∷ ‵ (flft κ₂ q₂) ∷ []
-
-  abbrev Lent₁ : ℕ → GName → List AckData → Fml
-  Lent₁ ν δ zs = MutSlice (named 0) (ν ∷ []) R .own (relent x₁ δ zs) (in-memory x₁ ∷ [])
-
-  abbrev Lent₂ : ℕ → GName → List ℕ → Fml
-  Lent₂ ν δ ws = MutSlice (named 0) (ν ∷ []) u8 .own (relent x₂ δ ws) (in-memory x₂ ∷ [])
 
   abbrev passed : walkOf 𝓤 H A self.ended stayed (self.clauses 𝓤 H A mem run) .Ghost
   passed = (((κ₁, (κ₂, tt)), (q₁, (q₂, tt)), bounds, (x₁, (p, (x₂, tt))), (in-memory x₁ ∷ [], (a-batch .val p ∷ [], (in-memory x₂ ∷ [], tt)))), tt)
@@ -92,7 +77,7 @@ module _ {M : Type 1} (𝓤 : URA M) (H : Heap 𝓤) (A : Atoms 𝓤) (W : Given
   abbrev Post : Val → SProp 𝓤
   Post = walkOf 𝓤 H A self.ended stayed (self.clauses 𝓤 H A mem run) .post passed
 
-  exits : (zs : List AckData) (ws : List ℕ) → length zs ≡ n → length ws ≡ m → Drained p ys os zs ws → ent 𝓤 (⋆ 𝓤 H A (Own zs ws)) (Post vunit)
+  exits : (zs : List AckData) (ws : List ℕ) → length zs ≡ length ys → length ws ≡ length os → Drained p ys os zs ws → ent 𝓤 (⋆ 𝓤 H A (Own zs ws)) (Post vunit)
   exits zs ws len₁ len₂ e =
       qed W (Own zs ws) ∵ suffices ! _ (ends-at 𝓤 H A self.ended stayed (self.clauses 𝓤 H A mem run) W passed vunit tt (zs, (tt, (ws, tt))) (len₁, (tt, (len₂, tt)))) $ says ! e $
       nothing ! $ move ! (4 ∷ 0 ∷ []) $ join ! $ move ! (2 ∷ 0 ∷ []) $ join ! $ frame ! $
@@ -108,25 +93,14 @@ module _ {M : Type 1} (𝓤 : URA M) (H : Heap 𝓤) (A : Atoms 𝓤) (W : Given
 
   -- what is known at each count: the output is as long as it was
   abbrev Long : ℕ → Type 0
-  Long i = length (wr i) ≡ m
+  Long i = length (wr i) ≡ length os
 
   abbrev to-swap : ℕ → GName → List AckData → ℕ → Called 𝓤 H A swap.ended (swap.clauses 𝓤 H A mem run) .Ghost
   to-swap ν δ zs j = (((ν ∷ [], tt), (fullShare, tt), tt, (relent x₁ δ zs, (j, (blank, tt))), (in-memory x₁ ∷ [], (vint w64 j ∷ [], (mach blank ∷ [], tt)))), tt)
 
-  goes-swap : (ν : ℕ) (δ : GName) (zs : List AckData) (j : ℕ) → j < 2 ^ 64
-      → ent 𝓤 (sep 𝓤 (A .lft (ν ∷ []) fullShare) (sem 𝓤 H A (Lent₁ ν δ zs))) (Called 𝓤 H A swap.ended (swap.clauses 𝓤 H A mem run) .pre (to-swap ν δ zs j))
-  goes-swap ν δ zs j j-fits =
-      lent-in 𝓤 H A (usize ∷ R ∷ []) (a-word, (an-ack, tt)) (j, (blank, tt)) ((refl, j-fits), (blank-is, tt)) (A .lft (ν ∷ []) fullShare) (emp 𝓤) (Lent₁ ν δ zs) (id⊢ 𝓤 (emp 𝓤))
-
   abbrev to-put : ℕ → GName → List ℕ → ℕ → AckData → Called 𝓤 H A put.ended (put.clauses 𝓤 H A mem run) .Ghost
   to-put ν δ ws i r =
       (((ν ∷ [], tt), (fullShare, tt), tt, (relent x₂ δ ws, (p, (i, (r, tt)))), (in-memory x₂ ∷ [], (a-batch .val p ∷ [], (vint w64 i ∷ [], (an-ack .val r ∷ [], tt))))), tt)
-
-  goes-put : (ν : ℕ) (δ : GName) (ws : List ℕ) (i : ℕ) (r : AckData) → i < 2 ^ 64 → Is R r (an-ack .val r ∷ []) → AckFits p i r ws
-      → ent 𝓤 (sep 𝓤 (A .lft (ν ∷ []) fullShare) (sem 𝓤 H A (Lent₂ ν δ ws))) (Called 𝓤 H A put.ended (put.clauses 𝓤 H A mem run) .pre (to-put ν δ ws i r))
-  goes-put ν δ ws i r i-fits is asks =
-      lent-in 𝓤 H A (P.the-row ∷ usize ∷ R ∷ []) (a-batch, (a-word, (an-ack, tt))) (p, (i, (r, tt))) (p-is, ((refl, i-fits), (is, tt)))
-      (A .lft (ν ∷ []) fullShare) (fact 𝓤 (AckFits p i r ws)) (Lent₂ ν δ ws) (factI 𝓤 (AckFits p i r ws) (emp 𝓤) asks)
 
   module _ (𝓣 : Tables 𝓤 H) (knows : Knows 𝓤 H A mem run (𝓣 .C)) where
     open Tables 𝓣 using (C, Λ)
@@ -137,7 +111,7 @@ module _ {M : Type 1} (𝓤 : URA M) (H : Heap 𝓤) (A : Atoms 𝓤) (W : Given
 
       -- the locals at a turn: the result, and those behind i
       abbrev cells : Cell → ℕ → List Cell → List Cell
-      cells r i cs = r ∷ full (in-memory x₁) ∷ full (a-batch .val p) ∷ full (in-memory x₂) ∷ full (vint w64 n) ∷ full (vint w64 k) ∷ full (vint w64 i) ∷ cs
+      cells r i cs = r ∷ full (in-memory x₁) ∷ full (a-batch .val p) ∷ full (in-memory x₂) ∷ full (vint w64 (length ys)) ∷ full (vint w64 k) ∷ full (vint w64 i) ∷ cs
 
       -- the loop's invariant
       abbrev At : Upto k Long → List (Item 𝓤)
@@ -153,49 +127,55 @@ module _ {M : Type 1} (𝓤 : URA M) (H : Heap 𝓤) (A : Atoms 𝓤) (W : Given
           let i-fits : i .0 < 2 ^ 64 = lt-of-le-of-lt (i .1 .0) k-fits in
           let more-fits : i .0 + 1 < 2 ^ 64 = lt-of-le-of-lt (add-one-le lt) k-fits in
           let fm : FmC 𝓤 H (W .laws) C = fmOf 𝓤 H (W .laws) 𝓣 in
-          let long : length (cl (i .0)) ≡ n = length-blanked (p .ring .head) (i .0) ys in
+          let long : length (cl (i .0)) ≡ length ys = length-blanked (p .ring .head) (i .0) ys in
           sets ! (bin ! (of-local ! 22 refl) (of-local ! 24 refl) tt) (init ! 16 refl (tt, tt)) $ stays-if ! less (of-local ! 16 refl) $
-          calls-value ! fm slot.ended (slot.clauses 𝓤 H A mem run) (knows .0) tt tt tt (a-batch, (a-word, (a-word, tt))) (p, (n, (i .0, tt))) tt a-word
-          (p-is, ((refl, room₁ .0), ((refl, i-fits), tt))) (id⊢ 𝓤 _) (id⊢ 𝓤 _) (λ j. j ≡ slotOf (p .ring .head) n (i .0)) (λ j e. id⊢ 𝓤 _)
+          calls-value ! fm slot.ended (slot.clauses 𝓤 H A mem run) (knows .0) tt tt tt (a-batch, (a-word W, (a-word W, tt))) (p, (length ys, (i .0, tt))) tt (a-word W)
+          (p-is, ((refl, room₁ .0), ((refl, i-fits), tt))) (id⊢ 𝓤 _) (id⊢ 𝓤 _) (λ j. j ≡ slotOf (p .ring .head) (length ys) (i .0)) (λ j e. id⊢ 𝓤 _)
           (and-then ! (of-local ! 31 refl) (and-then ! (of-local ! 27 refl) (and-then ! (of-local ! 23 refl) (no-more !)))) (λ j sj is-j.
-          gets ! (init ! 20 refl (a-word .lawful .typed j _ is-j .0)) $
+          gets ! (init ! 20 refl (a-word W .lawful .typed j _ is-j .0)) $
           -- records is lent again to `swap_record`, and comes back
           sets ! (addr ! (from ! (fld ! refl (hop ! (look-in ! 32 (sub ! 0 refl (whole !))) (stop !))))) (init ! 14 refl (tt, tt)) $
           sets ! (agg ! (and-then ! (of-local ! 14 refl) (and-then ! (load ! (from ! (fld ! refl (stop !))) (look-in ! 32 (sub ! 1 refl (whole !)))) (no-more !))))
           (init ! 12 refl (tt, (tt, (record { fits = room₁ .0 }, tt)))) $
           sets ! (agg ! (and-then ! (lit ! tt) (and-then ! (lit ! tt) (no-more !)))) (init ! 10 refl (an-ack .lawful .typed blank _ blank-is .0)) $
-          lft-new ! tt (λ ν. move ! (1 ∷ 2 ∷ []) $ use2 W (later (some (λ (δ : GName). ‵ (Lent₁ ν δ (cl (i .0))) ⊛ ‵ (LentAgain R κ₁ (ν ∷ []) q₁ (x₁ .name) (x₁ .ptr .0) (x₁ .ptr .1) δ (cl (i .0))))))
-          (lends-at R κ₁ (ν ∷ []) q₁ (x₁ .name) (x₁ .ptr .0) (x₁ .ptr .1) 𝓤 H A W (named 0) (named 0) (cl (i .0)) n long) $ await ! tt $ pick ! (λ δ. split ! $ move ! (2 ∷ 0 ∷ []) $
-          use2 W (raw (Called 𝓤 H A swap.ended (swap.clauses 𝓤 H A mem run) .pre (to-swap ν δ (cl (i .0)) j))) (goes-swap ν δ (cl (i .0)) j (is-j .1)) $
+          lft-new ! tt (λ ν. move ! (1 ∷ 2 ∷ []) $
+          use2 W (later (some (λ (δ : GName). ‵ (owned-slice R (named 0) (ν ∷ []) x₁ δ (cl (i .0))) ⊛ ‵ (LentAgain R κ₁ (ν ∷ []) q₁ (x₁ .name) (x₁ .ptr .0) (x₁ .ptr .1) δ (cl (i .0))))))
+          (lends-at R κ₁ (ν ∷ []) q₁ (x₁ .name) (x₁ .ptr .0) (x₁ .ptr .1) 𝓤 H A W (named 0) (named 0) (cl (i .0)) (length ys) long) $ await ! tt $ pick ! (λ δ. split ! $ move ! (2 ∷ 0 ∷ []) $
+          use2 W (raw (Called 𝓤 H A swap.ended (swap.clauses 𝓤 H A mem run) .pre (to-swap ν δ (cl (i .0)) j)))
+          (lent-in 𝓤 H A (usize ∷ R ∷ []) (a-word W, (an-ack, tt)) (j, (blank, tt)) (is-j, (blank-is, tt)) (A .lft (ν ∷ []) fullShare) (emp 𝓤)
+          (owned-slice R (named 0) (ν ∷ []) x₁ δ (cl (i .0))) (id⊢ 𝓤 (emp 𝓤))) $
           calls-by ! fm swap.ended (swap.clauses 𝓤 H A mem run) (knows .1) (to-swap ν δ (cl (i .0)) j) an-ack (λ r zs. (r ≡ getD (cl (i .0)) j blank) × (zs .0 ≡ set (cl (i .0)) j blank))
           (λ r zs. id⊢ 𝓤 _) (and-then ! (of-local ! 12 refl) (and-then ! (of-local ! 20 refl) (and-then ! (of-local ! 10 refl) (no-more !)))) (λ r zs er is-r.
           let zs-is : zs .0 ≡ cl (i .0 + 1) = er .1 ∙ next-cleared p ys os packable (i .0) j lt sj in
           -- [the call's token and true; the last list; what is kept; out's two; _15; …]
           use1 W (‵ (flft (ν ∷ []) fullShare) ⊛ ‵ ftrue) (id⊢ 𝓤 _) $ split ! $ lft-end ! tt $ move ! (2 ∷ []) $ fsplit ! $ fsplit ! $ move ! (1 ∷ []) $ feqL ! (λ len. move ! (2 ∷ 4 ∷ 0 ∷ []) $
           use3 W (later (‵ (Mine₁ (zs .0)) ⊛ ‵ (flft κ₁ q₁)))
-          (back-at R κ₁ (ν ∷ []) q₁ (x₁ .name) (x₁ .ptr .0) (x₁ .ptr .1) 𝓤 H A W (named 0) (named 0) (cl (i .0)) n long δ (zs .0) room₁ len) $ await ! tt $ split ! $
+          (back-at R κ₁ (ν ∷ []) q₁ (x₁ .name) (x₁ .ptr .0) (x₁ .ptr .1) 𝓤 H A W (named 0) (named 0) (cl (i .0)) (length ys) long δ (zs .0) room₁ len) $ await ! tt $ split ! $
           rewrite ! 0 (λ (ls : List AckData). ‵ (Mine₁ ls)) zs-is refl $ move ! (2 ∷ []) $ drop ! $ move ! (2 ∷ []) $ drop ! $
           gets ! (init ! 18 refl (an-ack .lawful .typed r _ is-r .0)) $
           -- out is lent again to `put_ack`, and comes back
           sets ! (addr ! (from ! (fld ! refl (hop ! (look-in ! 28 (sub ! 0 refl (whole !))) (stop !))))) (init ! 6 refl (tt, tt)) $
           sets ! (agg ! (and-then ! (of-local ! 6 refl) (and-then ! (load ! (from ! (fld ! refl (stop !))) (look-in ! 28 (sub ! 1 refl (whole !)))) (no-more !))))
           (init ! 4 refl (tt, (tt, (record { fits = room₂ .0 }, tt)))) $
-          lft-new ! tt (λ μ. move ! (3 ∷ 4 ∷ []) $ use2 W (later (some (λ (ε : GName). ‵ (Lent₂ μ ε (wr (i .0))) ⊛ ‵ (LentAgain u8 κ₂ (μ ∷ []) q₂ (x₂ .name) (x₂ .ptr .0) (x₂ .ptr .1) ε (wr (i .0))))))
-          (lends-at u8 κ₂ (μ ∷ []) q₂ (x₂ .name) (x₂ .ptr .0) (x₂ .ptr .1) 𝓤 H A W (named 1) (named 0) (wr (i .0)) m (i .1 .1)) $ await ! tt $ pick ! (λ ε. split ! $ move ! (2 ∷ 0 ∷ []) $
+          lft-new ! tt (λ μ. move ! (3 ∷ 4 ∷ []) $
+          use2 W (later (some (λ (ε : GName). ‵ (owned-slice u8 (named 0) (μ ∷ []) x₂ ε (wr (i .0))) ⊛ ‵ (LentAgain u8 κ₂ (μ ∷ []) q₂ (x₂ .name) (x₂ .ptr .0) (x₂ .ptr .1) ε (wr (i .0))))))
+          (lends-at u8 κ₂ (μ ∷ []) q₂ (x₂ .name) (x₂ .ptr .0) (x₂ .ptr .1) 𝓤 H A W (named 1) (named 0) (wr (i .0)) (length os) (i .1 .1)) $ await ! tt $ pick ! (λ ε. split ! $ move ! (2 ∷ 0 ∷ []) $
           use2 W (raw (Called 𝓤 H A put.ended (put.clauses 𝓤 H A mem run) .pre (to-put μ ε (wr (i .0)) (i .0) r)))
-          (goes-put μ ε (wr (i .0)) (i .0) r i-fits is-r (next-fits p ys os packable (i .0) j lt sj r (er .0) (i .1 .1))) $
+          (lent-in 𝓤 H A (P.the-row ∷ usize ∷ R ∷ []) (a-batch, (a-word W, (an-ack, tt))) (p, (i .0, (r, tt))) (p-is, ((refl, i-fits), (is-r, tt)))
+          (A .lft (μ ∷ []) fullShare) (fact 𝓤 (AckFits p (i .0) r (wr (i .0)))) (owned-slice u8 (named 0) (μ ∷ []) x₂ ε (wr (i .0)))
+          (factI 𝓤 (AckFits p (i .0) r (wr (i .0))) (emp 𝓤) (next-fits p ys os packable (i .0) j lt sj r (er .0) (i .1 .1)))) $
           calls-by ! fm put.ended (put.clauses 𝓤 H A mem run) (knows .2) (to-put μ ε (wr (i .0)) (i .0) r) (a-unit W) (λ z ws. ws .0 ≡ ackPut p (i .0) r (wr (i .0))) (λ z ws. id⊢ 𝓤 _)
           (and-then ! (of-local ! 4 refl) (and-then ! (of-local ! 30 refl) (and-then ! (of-local ! 22 refl) (and-then ! (of-local ! 18 refl) (no-more !))))) (λ z ws ew is-z.
           let ws-is : ws .0 ≡ wr (i .0 + 1) = ew ∙ next-written p ys os packable (i .0) j lt sj r (er .0) in
           use1 W (‵ (flft (μ ∷ []) fullShare) ⊛ ‵ ftrue) (id⊢ 𝓤 _) $ split ! $ lft-end ! tt $ move ! (2 ∷ []) $ fsplit ! $ fsplit ! $ move ! (1 ∷ []) $ feqL ! (λ len₂. move ! (2 ∷ 4 ∷ 0 ∷ []) $
           use3 W (later (‵ (Mine₂ (ws .0)) ⊛ ‵ (flft κ₂ q₂)))
-          (back-at u8 κ₂ (μ ∷ []) q₂ (x₂ .name) (x₂ .ptr .0) (x₂ .ptr .1) 𝓤 H A W (named 1) (named 0) (wr (i .0)) m (i .1 .1) ε (ws .0) room₂ len₂) $ await ! tt $ split ! $
+          (back-at u8 κ₂ (μ ∷ []) q₂ (x₂ .name) (x₂ .ptr .0) (x₂ .ptr .1) 𝓤 H A W (named 1) (named 0) (wr (i .0)) (length os) (i .1 .1) ε (ws .0) room₂ len₂) $ await ! tt $ split ! $
           rewrite ! 0 (λ (ls : List ℕ). ‵ (Mine₂ ls)) ws-is refl $ move ! (2 ∷ []) $ drop ! $ move ! (2 ∷ []) $ drop ! $ move ! (2 ∷ 3 ∷ []) $
           -- [records' two; out's two; _15; …]
           gets ! (init ! 8 refl (tt, tt)) $
           assigns-last ! (bin ! (of-local ! 22 refl) (lit ! tt) (record { fits = more-fits })) (from ! (stop !)) (store ! 22 refl (tt, record { fits = more-fits })) $
           forget ! 4 refl $ forget ! 6 refl $ forget ! 8 refl $ forget ! 10 refl $ forget ! 12 refl $ forget ! 14 refl $ forget ! 16 refl $ forget ! 18 refl $ forget ! 20 refl $
-          again ! (Nearer k Long) At i (i .0 + 1, (add-one-le lt, subst (λ (ls : List ℕ). length ls ≡ m) ws-is (len₂ ∙ i .1 .1))) (add-one-dec k (i .0) lt))))))))))
+          again ! (Nearer k Long) At i (i .0 + 1, (add-one-le lt, subst (λ (ls : List ℕ). length ls ≡ length os) ws-is (len₂ ∙ i .1 .1))) (add-one-dec k (i .0) lt))))))))))
       by-test i false over =
           let same = le-antisymm (i .1 .0) (ltb-false (i .0) k over) in
           sets ! (bin ! (of-local ! 22 refl) (of-local ! 24 refl) tt) (init ! 16 refl (tt, tt)) $ leaves-if ! over (of-local ! 16 refl) $ exec ! C Λ En t-5 (atRet En Post) $
