@@ -17,7 +17,10 @@ returns c =
     let start = known .before .before in
     let k = start .args in
     let r : k .a + k .n - k .a ≡ k .n = omega arith in
-    rw (copied .copy .ensures .1, r, take-length) (take-at (take (k .n) (drop (k .a) (now (k .src)))) _ (k .n) (length-part (now (k .src)) (k .a) (k .n) (start .pre .1)))
+    record {
+      within = start .pre .1;
+      begins = rw (copied .copy .ensures .1, r, take-length) (take-at (take (k .n) (drop (k .a) (now (k .src)))) _ (k .n) (length-part (now (k .src)) (k .a) (k .n) (start .pre .1)));
+    }
 
 pub stage-spec : {M : Type 1} → statement M
 stage-spec =

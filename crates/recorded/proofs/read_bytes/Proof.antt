@@ -10,11 +10,8 @@ use Rattle.recorded.proofs.read_bytes.Tie as tie
 slice-aggregate-read-full : tie.Need-slice-aggregate-read-full
 slice-aggregate-read-full c = sym (length-take-le _ _ (omega arith))
 
-returns-3 : tie.Need-returns-3
-returns-3 c = counted _ _ (search needs)
-
 pub read-bytes-spec : {M : Type 1} → statement M
 read-bytes-spec =
     tie.close
     (tie.spec (λ c κs. search needs) (λ c. search needs) (λ c. search needs) (λ c. search needs) (λ c. search needs) (λ c. search needs)
-    (λ c. search needs) slice-aggregate-read-full (λ c κs. search needs) (λ c. search needs) returns-3)
+    (λ c. search needs) slice-aggregate-read-full (λ c κs. search needs) (λ c. search needs) (λ c. counted _ _ (search needs)))

@@ -4,11 +4,5 @@ use Rattle.recorded.proofs.Counted.{counted}
 use Rattle.recorded.proofs.read_length.Statement.{statement}
 use Rattle.recorded.proofs.read_length.Tie as tie
 
-returns : tie.Need-returns
-returns c = counted _ _ (search needs)
-
-returns-2 : tie.Need-returns-2
-returns-2 c = counted _ _ (search needs)
-
 pub read-length-spec : {M : Type 1} → statement M
-read-length-spec = tie.close (tie.spec (λ c κs. search needs) returns returns-2)
+read-length-spec = tie.close (tie.spec (λ c κs. search needs) (λ c. counted _ _ (search needs)) (λ c. counted _ _ (search needs)))
