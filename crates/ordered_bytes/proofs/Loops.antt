@@ -30,6 +30,31 @@ held-in b h here mark = held-at b h ∙ rw (← here, mark)
 pub free-in : (b : Buffer) {slot d : ℕ} → d < slots b → slot ≡ slotAt b d → getD (b .marks) slot false ≡ false → getD (view b .held) d none ≡ none
 free-in b h here mark = held-at b h ∙ rw (← here, mark)
 
+-- a slot of the ring: what a loop asks of its length and its bytes
+pub record AtSlot (b : Buffer) (slot : ℕ) : Type 0 where
+  pub below : slot < slots b
+  pub few : slots b ≤ 2000
+  pub any : 1 ≤ slots b
+  pub lengths : slot < length (b .lengths)
+  pub size : getD (b .lengths) slot 0 ≤ width b
+  pub wide : width b ≤ 65535
+  pub ends : slot * width b + width b ≤ length (b .store)
+
+at-slot : {b : Buffer} {slot : ℕ} → Good b → slot < slots b → AtSlot b slot
+at-slot {b} {slot} g h = record {
+  below = h;
+  few = g .shape .few-slots;
+  any = g .shape .some-slots;
+  lengths = rw (g .shape .lengths-n) h;
+  size = g .lengths-w slot;
+  wide = g .shape .small-width;
+  ends = omega (arith, store-long g, slot-ends g h);
+}
+
+-- the slot at a distance
+pub at-distance : {b : Buffer} {slot d : ℕ} → Good b → slot ≡ slotAt b d → d ≤ slots b → AtSlot b slot
+at-distance g here few = at-slot g (rw here (slot-below g few))
+
 -- ---- `consume`
 
 walk-empty : (room : ℕ) → walk room [] ≡ nothing
@@ -89,10 +114,6 @@ walking-starts {b} g room at buf =
     }
 
 module _ {b : Buffer} (g : Good b) {room at : ℕ} {buf₀ buf : List ℕ} {slot packets given restAt rest : ℕ} (s : WalkState b room at buf₀ buf slot packets given restAt rest) where
-  -- the slot is in the ring
-  pub walking-in : packets < slots b → slot < slots b
-  walking-in more = rw (s .here) (slot-below g (s .few))
-
   -- one packet
   pub walking-turn : at + room ≤ length buf₀ → packets < slots b → given < room → getD (b .marks) slot false ≡ true → {buf′ : List ℕ} {part next : ℕ}
       → part ≡ min (getD (b .lengths) slot 0) (room - given)
@@ -102,11 +123,8 @@ module _ {b : Buffer} (g : Good b) {room at : ℕ} {buf₀ buf : List ℕ} {slot
   walking-turn fits more free mark {buf′} {part} {next} cut copied on =
       let size = getD (b .lengths) slot 0 in
       let start = slot * width b in
-      let below : slot < slots b = walking-in more in
-      let long : length (take size (drop start (b .store))) ≡ size = length-in-slot g below in
-      let ends = slot-ends g below in
-      let store = store-long g in
-      let wide = g .lengths-w slot in
+      let a : AtSlot b slot = at-distance g (s .here) (s .few) in
+      let long : length (take size (drop start (b .store))) ≡ size = length-in-slot g (a .below) in
       let v = remaining b room (packets + 1) (given + part) in
       let x = take part (drop start (b .store)) in
       let y = take (size - part) (drop (start + part) (b .store)) in

@@ -17,10 +17,10 @@ use Rattle.ordered_bytes.specs.Buffer.{Buffer, slots, width, wrap, slotA
 use Rattle.ordered_bytes.specs.Steps.{heldPayloads, PayloadsCounted, RoomFor, PiecesCopied}
 use Rattle.ordered_bytes.proofs.WellFormed.{Good}
 use Rattle.slots.proofs.Ring.{wrap-on}
-use Rattle.ordered_bytes.proofs.View.{slot-below, length-in-slot, length-held}
+use Rattle.ordered_bytes.proofs.View.{length-in-slot, length-held}
 use Rattle.ordered_bytes.proofs.Walk.{payloads-none, payloads-held, payloads-full, payloads-most}
 use Rattle.ordered_bytes.proofs.Places.{front-at}
-use Rattle.ordered_bytes.proofs.Loops.{held-in, free-in}
+use Rattle.ordered_bytes.proofs.Loops.{AtSlot, at-distance, held-in, free-in}
 
 -- what is still to take of `most` payloads where k are taken
 abbrev pub remaining : Buffer → ℕ → ℕ → List (List ℕ)
@@ -63,14 +63,12 @@ counting-starts g most =
     }
 
 module _ {b : Buffer} (g : Good b) {most slot packets bytes : ℕ} (s : CountState b most slot packets bytes) where
-  pub counting-in : slot < slots b
-  counting-in = rw (s .here) (slot-below g (s .few))
-
   pub counting-turn : packets < slots b → packets < most → getD (b .marks) slot false ≡ true → {on : ℕ} → on ≡ wrap (slots b) (slot + 1)
       → CountState b most on (packets + 1) (bytes + getD (b .lengths) slot 0)
   counting-turn more asked mark moved =
       let turn = next b more asked (s .here) mark in
-      let long = length-in-slot g counting-in in
+      let a : AtSlot b slot = at-distance g (s .here) (s .few) in
+      let long = length-in-slot g (a .below) in
       let counted = rw turn at (s .counted) in
       let counted-bytes = rw (turn, flatten-cons, length-append, long) at (s .counted-bytes) in
       record {
@@ -79,7 +77,7 @@ module _ {b : Buffer} (g : Good b) {most slot packets bytes : ℕ} (s : CountSta
         here = moved ∙ rw (s .here) (wrap-on (g .front-n) packets 1 (omega arith));
         counted = omega arith;
         counted-bytes = omega arith;
-        small = omega (arith, g .lengths-w slot, g .shape .small-width);
+        small = omega arith;
       }
 
   counting-ends : (slots b ≤ packets) ⊎ ((most ≤ packets) ⊎ ((packets < slots b) × (getD (b .marks) slot false ≡ false))) → remaining b most packets ≡ []
@@ -130,11 +128,11 @@ copying-starts g packets at first buf list were =
 module _ {b : Buffer} (g : Good b) {packets at first : ℕ} {buf₀ buf list₀ list : List ℕ} {slot given done : ℕ}
     (all-held : length (heldPayloads b packets) ≡ packets) (room : RoomFor (heldPayloads b packets) buf₀ at list₀ first)
     (s : CopyState b packets at first buf₀ buf list₀ list slot given done) (more : done < packets) where
-  pub copying-below : done < slots b
+  copying-below : done < slots b
   copying-below = omega (arith, payloads-most packets (view b .held) .1, length-held b)
 
-  pub copying-in : slot < slots b
-  copying-in = let few : done ≤ slots b = omega (arith, copying-below) in rw (s .here) (slot-below g few)
+  pub copying-in : AtSlot b slot
+  copying-in = at-distance g (s .here) (omega (arith, copying-below))
 
   marked : (m : Bool) → getD (b .marks) slot false ≡ m → getD (b .marks) slot false ≡ true
   marked true e = e
@@ -144,7 +142,7 @@ module _ {b : Buffer} (g : Good b) {packets at first : ℕ} {buf₀ buf list₀ 
   turn = next b copying-below more (s .here) (marked (getD (b .marks) slot false) refl)
 
   size-fits : given + getD (b .lengths) slot 0 + length (flatten (remaining b packets (done + 1))) ≡ at + length (flatten (payloads packets (view b .held)))
-  size-fits = let bytes = rw (turn, flatten-cons, length-append, length-in-slot g copying-in) at (s .counted-bytes) in omega arith
+  size-fits = let bytes = rw (turn, flatten-cons, length-append, length-in-slot g (copying-in .below)) at (s .counted-bytes) in omega arith
 
   -- the payload has room in the output
   pub copying-fits : given + getD (b .lengths) slot 0 ≤ length buf
@@ -158,7 +156,7 @@ module _ {b : Buffer} (g : Good b) {packets at first : ℕ} {buf₀ buf list₀ 
       let size = getD (b .lengths) slot 0 in
       let p = payload b slot in
       let v = remaining b packets (done + 1) in
-      let long : length p ≡ size = length-in-slot g copying-in in
+      let long : length p ≡ size = length-in-slot g (copying-in .below) in
       let pasted : buf′ ≡ paste buf given p (length p) = copied ∙ paste-part buf (drop (slot * width b) (b .store)) p given size refl long in
       let were = rw turn at (s .were) in
       let within : first + done < length list = omega (arith, s .list-long) in

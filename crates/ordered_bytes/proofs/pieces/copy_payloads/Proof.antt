@@ -1,13 +1,12 @@
 -- `ordered_bytes::pieces::copy_payloads` meets its contract. The invariant: copying what is left, from here on, gives what copying all gave.
 -- Assumes nothing.
-use Prim.Native.Nat.{_+_, _-_, _*_, _≤_, _<_}
+use Prim.Native.Nat.{_+_, _-_, _≤_}
 use native.Mathlib.Omega.{arith}
-use mir.Facts.{fits-le, fits-lit}
 use lib.ListN.{length, getD}
 use borrow.Author.Needs.{needs}
-use Rattle.ordered_bytes.specs.Buffer.{Buffer, bufferOf, slots, width}
+use Rattle.ordered_bytes.specs.Buffer.{Buffer, bufferOf}
 use Rattle.ordered_bytes.proofs.WellFormed.{Good, good}
-use Rattle.ordered_bytes.proofs.View.{slot-ends, store-long}
+use Rattle.ordered_bytes.proofs.Loops.{AtSlot}
 use Rattle.ordered_bytes.proofs.Payloads.{CopyState, copying-starts, copying-in, copying-fits, copying-turn, copying-done}
 use Rattle.ordered_bytes.proofs.pieces.copy_payloads.Statement.{statement}
 use Rattle.ordered_bytes.proofs.pieces.copy_payloads.Tie as tie
@@ -34,18 +33,13 @@ entry c = let k = start c .args in bufferOf (k .o) (k .marks .now) (k .lengths .
 facts : (c : Turn) → Good (entry c)
 facts c = good (start c .pre .0 .0)
 
-in-ring : (c : Turn) → c .before .loop .slot < slots (entry c)
-in-ring c =
+-- the slot lies in the ring
+here : (c : Turn) → AtSlot (entry c) (c .before .loop .slot)
+here c =
     let p = start c .pre in
     copying-in (facts c) (p .0 .1) (p .1) (c .before .loop .inv) (c .loop-test .taken)
 
-in-store : (c : Turn) → let b = entry c in c .before .loop .slot * width b + width b ≤ length (b .store)
-in-store c = omega (arith, store-long (facts c), slot-ends (facts c) (in-ring c))
-
--- the payload's length, and its room in the output
-size-fits : (c : Turn) → getD (entry c .lengths) (c .before .loop .slot) 0 ≤ 65535
-size-fits c = omega (arith, facts c .lengths-w (c .before .loop .slot), facts c .shape .small-width)
-
+-- its payload has room in the output
 room : (c : Turn) → c .before .loop .given + getD (entry c .lengths) (c .before .loop .slot) 0 ≤ length (c .before .loop .buf)
 room c =
     let p = start c .pre in
@@ -57,36 +51,13 @@ loop-holds c =
     let k = s .args in
     copying-starts (good (s .pre .0 .0)) (k .packets) (k .at) (k .first) (k .buf .now) (k .list .now) (s .pre .0 .1)
 
-mul-size : tie.Need-mul-size Inv-loop μ-loop
-mul-size c = omega (arith, in-ring c, facts c .shape .few-slots)
-
-shared-slice-read-size : tie.Need-shared-slice-read-size Inv-loop μ-loop
-shared-slice-read-size c = rw (facts (c .before) .shape .lengths-n) (in-ring (c .before))
-
-mul-copy-part : tie.Need-mul-copy-part Inv-loop μ-loop
-mul-copy-part c = let turn = c .before .before in omega (arith, in-store turn, start turn .good)
-
-cast-copy-part : tie.Need-cast-copy-part Inv-loop μ-loop
-cast-copy-part c = fits-le (size-fits (c .before .before)) (fits-lit tt)
-
 copy-part-requires : tie.Need-copy-part-requires Inv-loop μ-loop
-copy-part-requires c κs =
-    let turn = c .before .before .before in
-    (omega (arith, size-fits turn), omega (arith, in-store turn, facts turn .lengths-w (turn .before .loop .slot)), room turn)
-
-cast-given : tie.Need-cast-given Inv-loop μ-loop
-cast-given c = fits-le (size-fits (turned c)) (fits-lit tt)
+copy-part-requires c κs = let turn = c .before .before .before in let a = here turn in (omega arith, omega arith, room turn)
 
 add-given : tie.Need-add-given Inv-loop μ-loop
 add-given c =
     let turn = turned c in
     omega (arith, room turn, turn .before .loop .inv .long, start turn .good)
-
-wrap-index-requires : tie.Need-wrap-index-requires Inv-loop μ-loop
-wrap-index-requires c κs =
-    let turn = turned c in
-    let shape = facts turn .shape in
-    (shape .few-slots, in-ring turn, shape .some-slots)
 
 loop-again : tie.Need-loop-again Inv-loop μ-loop
 loop-again c =
@@ -105,18 +76,18 @@ copy-payloads-spec =
     Inv-loop
     μ-loop
     loop-holds
-    mul-size
-    shared-slice-read-size
-    mul-copy-part
-    cast-copy-part
+    (λ c. let a = here c in search needs)
+    (λ c. here (c .before) .lengths)
+    (λ c. let a = here (c .before .before) in search needs)
+    (λ c. let a = here (c .before .before) in search needs)
     copy-part-requires
     (λ c. search needs)
     (λ c. search needs)
     (λ c. search needs)
-    cast-given
+    (λ c. let a = here (turned c) in search needs)
     add-given
     (λ c. search needs)
-    wrap-index-requires
+    (λ c κs. let a = here (turned c) in search needs)
     (λ c. search needs)
     loop-again
     (λ c. search needs)

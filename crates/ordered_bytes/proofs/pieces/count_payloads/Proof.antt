@@ -1,17 +1,17 @@
 -- `ordered_bytes::pieces::count_payloads` meets its contract. The invariant: what is counted and what is left make up all, in every buffer with these slots.
 -- Assumes nothing.
-use Prim.Native.Nat.{_-_, _<_}
+use Prim.Native.Nat.{_-_}
 use mathlib.Core.Path.{_≡_, refl}
 use mathlib.Core.Bool.{true}
 use mathlib.Core.Logic.{inl, inr}
 use native.Mathlib.Omega.{arith}
-use mir.Facts.{fits-le, fits-lit}
 use borrow.Author.Tests.{ltb-true, ltb-false}
 use borrow.Author.Needs.{needs}
 use Rattle.ordered_bytes.specs.declared.OrderedBytes.{OrderedBytes}
-use Rattle.ordered_bytes.specs.Buffer.{Buffer, bufferOf, wellFormed, slots}
+use Rattle.ordered_bytes.specs.Buffer.{Buffer, bufferOf, wellFormed}
 use Rattle.ordered_bytes.proofs.WellFormed.{Good, good}
-use Rattle.ordered_bytes.proofs.Payloads.{CountState, counting-starts, counting-in, counting-turn, counting-done}
+use Rattle.ordered_bytes.proofs.Loops.{AtSlot, at-distance}
+use Rattle.ordered_bytes.proofs.Payloads.{CountState, counting-starts, counting-turn, counting-done}
 use Rattle.ordered_bytes.proofs.pieces.count_payloads.Statement.{statement}
 use Rattle.ordered_bytes.proofs.pieces.count_payloads.Tie as tie
 
@@ -40,41 +40,14 @@ facts c = good (start c .pre)
 state : (c : At) → CountState (entry c) (start c .args .most) (c .loop .slot) (c .loop .packets) (c .loop .bytes)
 state c = c .loop .inv (start c .args .o) refl (start c .pre)
 
-in-ring : (c : At) → c .loop .slot < slots (entry c)
-in-ring c = counting-in (facts c) (state c)
+here : (c : At) → AtSlot (entry c) (c .loop .slot)
+here c = at-distance (facts c) (state c .here) (state c .few)
 
 loop-holds : tie.Need-loop-holds Inv-loop μ-loop
 loop-holds c = λ o front wf. rw (← front) (counting-starts (good wf) (c .before .before .before .args .most))
 
-shared-slice-read-if2 : tie.Need-shared-slice-read-if2 Inv-loop μ-loop
-shared-slice-read-if2 c = in-ring (c .before .before .before)
-
-mul-bytes : tie.Need-mul-bytes Inv-loop μ-loop
-mul-bytes c =
-    let at = c .before .before .before .before in
-    omega (arith, in-ring at, facts at .shape .few-slots)
-
-shared-slice-read-bytes : tie.Need-shared-slice-read-bytes Inv-loop μ-loop
-shared-slice-read-bytes c =
-    let at = turned c in
-    rw (facts at .shape .lengths-n) (in-ring at)
-
-cast-bytes : tie.Need-cast-bytes Inv-loop μ-loop
-cast-bytes c =
-    let at = turned c in
-    fits-le (facts at .lengths-w (at .loop .slot)) (fits-le (facts at .shape .small-width) (fits-lit tt))
-
 add-bytes : tie.Need-add-bytes Inv-loop μ-loop
-add-bytes c =
-    let at = turned c in
-    let g = facts at in
-    omega (arith, state at .few, state at .small, g .lengths-w (at .loop .slot), g .shape .small-width, g .shape .few-slots)
-
-wrap-index-requires : tie.Need-wrap-index-requires Inv-loop μ-loop
-wrap-index-requires c κs =
-    let at = turned c in
-    let shape = facts at .shape in
-    (shape .few-slots, in-ring at, shape .some-slots)
+add-bytes c = let at = turned c in let a = here at in omega (arith, state at .few, state at .small)
 
 loop-again : tie.Need-loop-again Inv-loop μ-loop
 loop-again c =
@@ -101,13 +74,13 @@ count-payloads-spec =
     Inv-loop
     μ-loop
     loop-holds
-    shared-slice-read-if2
-    mul-bytes
-    shared-slice-read-bytes
-    cast-bytes
+    (λ c. here (c .before .before .before) .below)
+    (λ c. let a = here (c .before .before .before .before) in search needs)
+    (λ c. here (turned c) .lengths)
+    (λ c. let a = here (turned c) in search needs)
     add-bytes
     (λ c. search needs)
-    wrap-index-requires
+    (λ c κs. let a = here (turned c) in search needs)
     (λ c. search needs)
     loop-again
     returns

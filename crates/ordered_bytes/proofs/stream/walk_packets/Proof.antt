@@ -1,16 +1,13 @@
 -- `ordered_bytes::stream::walk_packets` meets its contract. The invariant: what the walk still takes from here, done here, is what the whole walk takes.
 -- Assumes nothing.
-use Prim.Native.Nat.{_+_, _-_, _*_, _≤_, _<_}
+use Prim.Native.Nat.{_-_, _<_}
 use mathlib.Core.Logic.{inl, inr}
 use native.Mathlib.Omega.{arith}
-use mir.Facts.{fits-le, fits-lit}
-use lib.ListN.{length}
 use borrow.Author.Needs.{needs}
 use borrow.Author.Tests.{ltb-true, ltb-false}
-use Rattle.ordered_bytes.specs.Buffer.{Buffer, bufferOf, slots, width}
+use Rattle.ordered_bytes.specs.Buffer.{Buffer, bufferOf}
 use Rattle.ordered_bytes.proofs.WellFormed.{Good, good}
-use Rattle.ordered_bytes.proofs.View.{slot-ends, store-long}
-use Rattle.ordered_bytes.proofs.Loops.{WalkState, walking-starts, walking-in, walking-turn, walking-done}
+use Rattle.ordered_bytes.proofs.Loops.{AtSlot, at-distance, WalkState, walking-starts, walking-turn, walking-done}
 use Rattle.ordered_bytes.proofs.stream.walk_packets.Statement.{statement}
 use Rattle.ordered_bytes.proofs.stream.walk_packets.Tie as tie
 
@@ -36,12 +33,9 @@ facts c = good (start c .pre .0)
 loop-holds : tie.Need-loop-holds Inv-loop μ-loop
 loop-holds c = let s = c .before .before .before .before in walking-starts (good (s .pre .0)) (s .args .room) (s .args .at) (s .args .buf .now)
 
--- in a turn the slot lies in the ring and its bytes in the store
-in-ring : (c : tie.In-loop Inv-loop μ-loop) → c .before .loop .slot < slots (entry (c .before))
-in-ring c = walking-in (facts (c .before)) (c .before .loop .inv) (c .loop-test .taken)
-
-in-store : (c : tie.In-loop Inv-loop μ-loop) → let b = entry (c .before) in c .before .loop .slot * width b + width b ≤ length (b .store)
-in-store c = let g = facts (c .before) in omega (arith, store-long g, slot-ends g (in-ring c))
+-- in a turn the slot lies in the ring
+here : (c : tie.In-loop Inv-loop μ-loop) → AtSlot (entry (c .before)) (c .before .loop .slot)
+here c = at-distance (facts (c .before)) (c .before .loop .inv .here) (c .before .loop .inv .few)
 
 abbrev then₁ : tie.After-shared-slice-known5 Inv-loop μ-loop → tie.Then1 Inv-loop μ-loop
 then₁ c = c .before .before .before
@@ -54,47 +48,20 @@ cut c = c .before .before .before .before
 room-left : (c : tie.Then1 Inv-loop μ-loop) → c .before .before .loop .given < start (c .before .before) .args .room
 room-left c = ltb-true _ _ (c .if1 .taken)
 
-shared-slice-read-if2 : tie.Need-shared-slice-read-if2 Inv-loop μ-loop
-shared-slice-read-if2 c = in-ring (c .before .before)
-
-mul-size : tie.Need-mul-size Inv-loop μ-loop
-mul-size c = let below = in-ring (c .before .before .before) in let few = facts (c .before .before .before .before) .shape .few-slots in omega arith
-
-shared-slice-read-size : tie.Need-shared-slice-read-size Inv-loop μ-loop
-shared-slice-read-size c =
-    let test = c .before .before .before .before in
-    rw (facts (test .before) .shape .lengths-n) (in-ring test)
-
-cast-size : tie.Need-cast-size Inv-loop μ-loop
-cast-size c =
-    let at = then₁ c .before .before in
-    fits-le (facts at .lengths-w (at .loop .slot)) (fits-le (facts at .shape .small-width) (fits-lit tt))
-
-mul-start : tie.Need-mul-start Inv-loop μ-loop
-mul-start c =
-    let test = then₁ (c .before) .before in
-    omega (arith, in-store test, start (test .before) .good)
-
 copy-part-requires : tie.Need-copy-part-requires Inv-loop μ-loop
 copy-part-requires c κs =
     let more = then₁ (c .before .before .before) in
     let at = more .before .before in
-    let g = facts at in
+    let a = here (more .before) in
     let part = c .before .smaller .ensures in
-    let wide = g .lengths-w (at .loop .slot) in
-    (omega (arith, g .shape .small-width), omega (arith, in-store (more .before)), omega (arith, room-left more, start at .pre .1, at .loop .inv .long))
+    (omega arith, omega arith, omega (arith, room-left more, start at .pre .1, at .loop .inv .long))
 
 add-rest-at : tie.Need-add-rest-at Inv-loop μ-loop
 add-rest-at c =
     let test = then₁ (cut c .before .before) .before in
+    let a = here test in
     let part = cut c .smaller .ensures in
-    omega (arith, in-store test, facts (test .before) .lengths-w (test .before .loop .slot), start (test .before) .good)
-
-wrap-index-requires : tie.Need-wrap-index-requires Inv-loop μ-loop
-wrap-index-requires c κs =
-    let test = then₁ (cut c .before .before) .before in
-    let few = facts (test .before) .shape in
-    (few .few-slots, in-ring test, few .some-slots)
+    omega (arith, start (test .before) .good)
 
 loop-again : tie.Need-loop-again Inv-loop μ-loop
 loop-again c =
@@ -123,11 +90,11 @@ walk-packets-spec =
     Inv-loop
     μ-loop
     loop-holds
-    shared-slice-read-if2
-    mul-size
-    shared-slice-read-size
-    cast-size
-    mul-start
+    (λ c. here (c .before .before) .below)
+    (λ c. let a = here (c .before .before .before) in search needs)
+    (λ c. here (then₁ c .before) .lengths)
+    (λ c. let a = here (then₁ c .before) in search needs)
+    (λ c. let a = here (then₁ (c .before) .before) in search needs)
     (λ c. search needs)
     (λ c κs. search needs)
     (λ c. search needs)
@@ -136,7 +103,7 @@ walk-packets-spec =
     add-rest-at
     (λ c. search needs)
     (λ c. search needs)
-    wrap-index-requires
+    (λ c κs. let a = here (then₁ (cut c .before .before) .before) in search needs)
     (λ c. search needs)
     loop-again
     (λ c. search needs)
