@@ -1,15 +1,14 @@
 -- Which refusals a call on a well-formed buffer may answer: a read answers, or says 8 or 10, and no call says 12.
 -- Assumes nothing.
-use Prim.Native.Nat.{ℕ, _-_}
+use Prim.Native.Nat.{ℕ}
 use mathlib.Core.Path.{_≡_, refl, sym, _∙_}
 use mathlib.Core.Bool.{Bool, true, false, true≢false, not, cond}
 use mathlib.Core.List.{List, [], _∷_}
 use native.Mathlib.Omega.{arith}
-use lib.Dec.{eqb}
-use borrow.Author.Tests.{eqb-false}
-use Rattle.refusal.specs.Said.{Said, answers, refuses, refusalIn, checks}
+use Rattle.refusal.specs.Said.{Said, answers, refuses, refusalIn}
+use Rattle.refusal.proofs.Among.{computes, never, checks-among}
 use Rattle.ordered_bytes.specs.Receiver.{acceptChecks, consumed, anyHeld, available}
-use Rattle.ordered_bytes.specs.Buffer.{Buffer, slotAt, view, wellFormed, stored}
+use Rattle.ordered_bytes.specs.Buffer.{Buffer, view, wellFormed}
 use Rattle.ordered_bytes.specs.Calls.{starting, Acceptance, accepting, peeking, consuming, consumingBytes}
 use Rattle.ordered_bytes.proofs.Outcome.{malformed, short, reads, consume-ways, empty, consume-bytes-ways}
 
@@ -35,39 +34,24 @@ given-ends : {A : Type 0} (none : Bool) (v : A) → Ends (cond none (refuses 8) 
 given-ends true v = eight refl
 given-ends false v = values v refl
 
--- ---- checks of other numbers than 12 do not refuse with 12
-
-abbrev Others : List (Bool × ℕ) → Type 0
-Others [] = Unit
-Others (c ∷ cs) = (eqb (c .1) 12 ≡ false) × Others cs
-
-module _ {A : Type 0} (number : A → ℕ) (refusing : ℕ → A) (passing : A) (is : (r : ℕ) → number (refusing r) ≡ r) (other : number passing ≡ 12 → ⊥) where
-  never : (cs : List (Bool × ℕ)) → Others cs → number (checks cs refusing passing) ≡ 12 → ⊥
-  never [] o = other
-  never (c ∷ cs) o = by (c .0) (never cs (o .1))
-    where
-      by : (holds : Bool) → (number (checks cs refusing passing) ≡ 12 → ⊥) → number (cond holds (refusing (c .1)) (checks cs refusing passing)) ≡ 12 → ⊥
-      by true later e = eqb-false (c .1) 12 (o .0) (sym (is (c .1)) ∙ e)
-      by false later e = later e
-
 -- ---- the calls
 
 module _ (b : Buffer) (well : wellFormed b ≡ true) where
   pub start-never : (s : ℕ) → refusalIn (starting b s) ≡ 12 → ⊥
   unfolding starting
-  start-never s = rw well (never refusalIn refuses (answers _) (λ r. refl) (λ e. omega arith) ((anyHeld (view b .held), 13) ∷ []) (refl, tt))
+  start-never s = rw well (never 12 refl (checks-among refusalIn refuses {ns = 13 ∷ []} ((anyHeld (view b .held), 13) ∷ []) refl (computes refl)))
 
   pub accept-never : (n : ℕ) (payload : List ℕ) → refusalIn (accepting b n payload .said) ≡ 12 → ⊥
   unfolding accepting
   accept-never n payload =
-      let stores : Acceptance = record { said = answers tt; buffer = stored b (slotAt b (n - b .state .«front_number»)) payload } in
       rw well
-      (never (λ (o : Acceptance). refusalIn (o .said)) (λ r. record { said = refuses r; buffer = b }) stores (λ r. refl) (λ e. omega arith)
-      (acceptChecks (view b) n payload) (refl, (refl, (refl, (refl, (refl, tt))))))
+      (never 12 refl
+      (checks-among (λ (o : Acceptance). refusalIn (o .said)) (λ r. record { said = refuses r; buffer = b }) {ns = 5 ∷ 6 ∷ 9 ∷ 7 ∷ 11 ∷ []}
+      (acceptChecks (view b) n payload) refl (computes refl)))
 
   pub peek-never : refusalIn (peeking b) ≡ 12 → ⊥
   unfolding peeking
-  peek-never = rw well (never {A = Said Unit} refusalIn refuses (answers tt) (λ r. refl) (λ e. omega arith) ((not (available (view b)), 8) ∷ []) (refl, tt))
+  peek-never = rw well (never 12 refl (checks-among {A = Said Unit} refusalIn refuses {ns = 8 ∷ []} ((not (available (view b)), 8) ∷ []) refl (computes refl)))
 
   pub consume-ends : (len : ℕ) (out : List ℕ) → Ends (consuming b len out .said)
   consume-ends len out =

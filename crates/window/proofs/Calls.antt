@@ -2,18 +2,17 @@
 -- These are the laws that other crates cite. Assumes nothing.
 use Prim.Native.Nat.{ℕ, zero, suc, _+_, _-_, _≤_, _<_}
 use mathlib.Core.Path.{_≡_, refl, sym, ap, _∙_}
-use mathlib.Core.Bool.{Bool, true, false, not, cond, _&&_, _||_}
+use mathlib.Core.Bool.{Bool, true, false, cond, _&&_, _||_}
 use mathlib.Core.List.{List, [], _∷_}
-use mathlib.Core.Logic.{inl, inr}
 use mathlib.Core.Option.{Option, none, some}
 use native.Mathlib.Omega.{arith}
 use lib.ListN.{length}
 use lib.Dec.{ltb, leb, eqb}
-use borrow.Author.Tests.{ltb-true, ltb-false, leb-false, le-ltb, lt-leb, ne-eqb, eqb-true, eqb-false, not-true}
+use borrow.Author.Tests.{ltb-true, ltb-false, leb-false, le-ltb, lt-leb, ne-eqb, eqb-true, eqb-false}
 use Rattle.refusal.specs.Said.{Said, answers, refuses, refusalIn, checks}
-use Rattle.refusal.proofs.Checks.{Failed, Checked, passes, fails, checked}
+use Rattle.refusal.proofs.Checks.{Checked, passes, fails, checked}
+use Rattle.refusal.proofs.Among.{never, failed-among}
 use Rattle.lists.specs.Numbers.{largest}
-use Rattle.lists.proofs.Tests.{both}
 use Rattle.window.specs.declared.SlidingWindow.{SlidingWindow}
 use Rattle.window.specs.Window.{windowSize, Outcome, refused, expected, window, held, below, beyond, exhausted, tooFew, member, wellFormed}
 use Rattle.window.specs.Window.{storedCells, grown, numbers, beforeHeld, storedBefore, storeRun, insertPacketNumber, rangeChecks, insertRange}
@@ -57,16 +56,6 @@ pub data Consumption (w : SlidingWindow) (cells : List ℕ) (o : Outcome (Option
       → ((n : ℕ) → expected w ≤ n → n ≤ last → member n (held w cells) ≡ true) → member (last + 1) (held w cells) ≡ false
       → ((n : ℕ) → member n (held (o .1) (o .2)) ≡ (leb (last + 1) n && member n (held w cells))) → Consumption w cells o
   nothing : o ≡ (answers none, w, cells) → member (expected w) (held w cells) ≡ false → Consumption w cells o
-
--- a number that no check has is not the one refused with
-abbrev lacks : ℕ → List (Bool × ℕ) → Bool
-lacks n [] = true
-lacks n (c ∷ cs) = not (eqb (c .1) n) && lacks n cs
-
-not-refused : (n : ℕ) (cs : List (Bool × ℕ)) → lacks n cs ≡ true → Failed cs n → ⊥
-not-refused n [] l f = f
-not-refused n (c ∷ cs) l (inl (e, q)) = eqb-false (c .1) n (not-true _ (both (not (eqb (c .1) n)) (lacks n cs) l .0)) q
-not-refused n (c ∷ cs) l (inr (e, f)) = not-refused n cs (both (not (eqb (c .1) n)) (lacks n cs) l .1) f
 
 module _ (w : SlidingWindow) (cells : List ℕ) (h : wellFormed w cells ≡ true) where
   wf : WellFormed w cells
@@ -135,7 +124,7 @@ module _ (w : SlidingWindow) (cells : List ℕ) (h : wellFormed w cells ≡ true
           let small = leb-false largest n (p .1 .1 .0) in
           let law = run-law n 1 (ltb-false n (expected w) (p .0)) (omega arith) in
           rw (q, ← one-is w cells n (wf .fits)) (single n (storeRun w cells n 1) refl (law .0), law .1)
-      by (fails r f q) = rw q (refusal r refl (λ e. not-refused 12 (tests n) refl (rw e at f)), h)
+      by (fails r f q) = rw q (refusal r refl (never 12 refl (failed-among {ns = 5 ∷ 6 ∷ 9 ∷ []} (tests n) refl f)), h)
 
   -- `insert_range`
   pub range-law : (base count : ℕ) → let o = insertRange w cells base count in RangeInsertion w cells base count o × Keeps o
@@ -150,8 +139,8 @@ module _ (w : SlidingWindow) (cells : List ℕ) (h : wellFormed w cells ≡ true
           let near = leb-false windowSize (base + count - 1 - expected w) (p .1 .1 .0) in
           rw q (run-law base count (ltb-false base (expected w) (p .0)) (omega arith))
       past (fails r f q) any =
-          let cs = rangeChecks w base count in
-          rw q (refusal r refl (λ e. not-refused 7 cs refl (rw e at f)) (λ e. not-refused 12 cs refl (rw e at f)), h)
+          let one = failed-among {ns = 5 ∷ 9 ∷ 6 ∷ []} (rangeChecks w base count) refl f in
+          rw q (refusal r refl (never 7 refl one) (never 12 refl one), h)
 
       by : (t : Bool) → eqb count 0 ≡ t →
           let o : Outcome Unit = cond t (answers tt, w, cells) (checks (rangeChecks w base count) (refused w cells) (storeRun w cells base count)) in
