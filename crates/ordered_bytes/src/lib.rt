@@ -176,7 +176,7 @@ pub fn buffer_in_packet_unchecked(
     if marks.len() as u64 <= distance {
         return Accepted::Refused(Refusal::Beyond);
     }
-    if n == state::LARGEST {
+    if n == lists::LARGEST {
         return Accepted::Refused(Refusal::Exhausted);
     }
     let slot = slots::wrap_index(marks.len(), o.front_slot, distance as usize);

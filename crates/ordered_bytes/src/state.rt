@@ -7,8 +7,7 @@ ghost use lib.ListN.{length, drop};
 ghost use Rattle.ordered_bytes.specs.Receiver.{numbersFit, anyHeld};
 ghost use Rattle.ordered_bytes.specs.Buffer.{bufferOf, view};
 use crate::OrderedBytes;
-
-pub const LARGEST: u64 = 0xffff_ffff_ffff_ffff;
+use lists::LARGEST;
 
 // Whether a slot is held at this distance from the front slot or farther.
 pub fn held_from(o: OrderedBytes, distance: u64, marks: &[bool]) -> bool

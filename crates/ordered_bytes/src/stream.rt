@@ -3,7 +3,7 @@
 // Proved: the bytes given, the packets taken, the rest and the answer are the definition's.
 ghost use mathlib.Core.Path.{_≡_};
 ghost use mathlib.Core.Bool.{true, cond};
-ghost use Prim.Native.Nat.{_+_, _≤_, min};
+ghost use Prim.Native.Nat.{_+_, _≤_};
 ghost use lib.ListN.{length};
 ghost use lib.Dec.{ltb, eqb};
 ghost use Rattle.refusal.specs.Said.{answers, refuses};
@@ -15,6 +15,7 @@ use crate::ConsumeResult;
 use crate::OrderedBytes;
 use crate::SlotLength;
 use crate::front;
+use parts::smaller;
 use refusal::Refusal;
 
 // What a walk took: packets, bytes given, and where in the store the rest of a split packet stands and how long it is.
@@ -32,12 +33,6 @@ pub struct BytesRead {
     pub bytes: usize,
     pub rest_at: usize,
     pub rest: usize,
-}
-
-fn smaller(a: usize, b: usize) -> usize
-    ensures { λ r. ⌜ r ≡ min a b ⌝ }
-{
-    if a < b { a } else { b }
 }
 
 // Copies held packets from the front to `buf` from `at` on, until `room` bytes are given; a packet too long for the rest is the last.

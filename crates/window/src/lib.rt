@@ -1,6 +1,7 @@
 // utils/window.rs: the numbers that were acked and are not yet consumed, rising, in the first cells of a lent slice
 // (document 01, "From acks to the window").
 // Proved: each call says what the definition says, and leaves the window and the cells as it does, for every window and every content of the cells.
+use lists::LARGEST;
 use refusal::Refusal;
 ghost use mathlib.Core.Path.{_≡_};
 ghost use mathlib.Core.Bool.{true, _&&_};
@@ -16,9 +17,6 @@ ghost use Rattle.window.specs.Window.{insertedSays, windowAfterInsert, r
 
 // How far from the smallest expected number on a number may be held.
 pub const MAX_SLIDING_WINDOW_SIZE: u64 = 40000;
-
-// The last number of 64 bits, which no packet has.
-const MAX_NUMBER: u64 = 0xffff_ffff_ffff_ffff;
 
 #[repr(C)]
 pub struct SlidingWindow {
@@ -89,7 +87,7 @@ fn is_holdable(w: SlidingWindow, n: u64) -> bool
     if n - expected >= MAX_SLIDING_WINDOW_SIZE {
         return false;
     }
-    if n >= MAX_NUMBER {
+    if n >= LARGEST {
         return false;
     }
     true
@@ -287,7 +285,7 @@ pub fn insert_packet_number_unchecked(w: SlidingWindow, cells: &mut [u64], n: u6
     if n - expected >= MAX_SLIDING_WINDOW_SIZE {
         return Inserted::Refused(Refusal::Beyond);
     }
-    if n == MAX_NUMBER {
+    if n == LARGEST {
         return Inserted::Refused(Refusal::Exhausted);
     }
     let stored = store_run(w, cells, n, 1);
@@ -326,7 +324,7 @@ pub fn insert_range_unchecked(
     if base < expected {
         return RangeInserted::Refused(Refusal::Below);
     }
-    if base > MAX_NUMBER - many {
+    if base > LARGEST - many {
         return RangeInserted::Refused(Refusal::Exhausted);
     }
     if base + many - 1 - expected >= MAX_SLIDING_WINDOW_SIZE {

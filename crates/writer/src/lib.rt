@@ -3,9 +3,11 @@
 use header::BluefinHeader;
 use header::BluefinSecurityFields;
 use header::PacketType;
+use lists::LARGEST;
+use parts::smaller;
 use refusal::Refusal;
 ghost use mathlib.Core.Path.{_≡_};
-ghost use Prim.Native.Nat.{ℕ, _+_, _<_, _≤_, min};
+ghost use Prim.Native.Nat.{ℕ, _+_, _<_, _≤_};
 ghost use lib.ListN.{length, take, drop};
 ghost use lib.Seq.{paste};
 ghost use lib.Dec.{eqb};
@@ -21,9 +23,6 @@ const PAYLOAD_SIZE: usize = net::MAX_BLUEFIN_PAYLOAD_SIZE_BYTES;
 
 // The payload bytes of a full datagram: its 15,200 bytes less ten headers.
 const BYTE_LIMIT: usize = net::MAX_BLUEFIN_PACKETS_IN_UDP_DATAGRAM * PAYLOAD_SIZE;
-
-// The largest packet number that the next one may become.
-const LARGEST: u64 = 18446744073709551615;
 
 // What a packing took and made: payload bytes, packets, the number after the last one, entries removed from the queue's front, and bytes cut
 // from the first entry left.
@@ -55,12 +54,6 @@ pub enum ReserveAnswer {
 struct Removal {
     entries: usize,
     cut: usize,
-}
-
-fn smaller(a: usize, b: usize) -> usize
-    ensures { λ r. ⌜ r ≡ min a b ⌝ }
-{
-    if a < b { a } else { b }
 }
 
 // A plain sum, which the compiler makes wide: fewer than 2^32 entries cannot overflow it.
