@@ -1,15 +1,15 @@
 -- Steps that the walks of this crate share: what is had for nothing, and calls of covered functions.
 --     has-ring, has-record, has-count   a ring, a record or a count is owned wherever its value is known
 --     at                                a whole local, as an operand
---     Asked, asks                       a call f(ring, count): what it promises is heard, and its answer owned
---     AskedOf, asks-of                  the same with a third argument
+--     Value, calls-value                a call with arguments by value: what it promises is heard, and its answer owned
+--     Asked, asks, AskedOf, asks-of     the same of (ring, count), and with a third argument
 --     number                            an answer that is a count stands in memory as itself
 --     Swap, swaps                       `swap_record`, to which the slice is given up for good: what it found, and the last list
 --     Fetch, fetches                    `record_at`, to which a copy of the shared slice goes
 -- Assumes `Given`, and of the table of calls that it holds what the callee promises.
 use Rattle.ring_buffer.proofs.Walk.{_≡_, refl, ap, ℕ, _<_, _^_, [], _∷_, List, length, getD, set, URA, Name, named, w64, place, copy, seq, call, Val, vint, SProp, ent, emp, Lft, Share}
 use Rattle.ring_buffer.proofs.Walk.{ftrue, fat, flft, Memory, Routine, Heap, Calls, Loops, Atoms, Fun, fact, Given, ‵, _⊛_, some, later, _$_, _∵_, !, qed, move, drop, use2, split, join}
-use Rattle.ring_buffer.proofs.Walk.{pick, fsplit, fjoin, frame, await, done, look, stop, from, load, FmC, Is, shows, uint-makes, usize, RefT, now, sliceVal, MutSlice, finally, plain}
+use Rattle.ring_buffer.proofs.Walk.{pick, fsplit, fjoin, frame, await, done, look, stop, from, load, FmC, owns, Is, shows, uint-makes, usize, RefT, now, sliceVal, MutSlice, finally, plain}
 use Rattle.ring_buffer.proofs.Walk.{nothing, Triple, tripleOf, Clauses, closing, yes, blank, AckData, RingBuffer, R, mach, ringv, Fml, ShrSlice, Env, Item, runs, sym, subst, RattleType}
 use Rattle.ring_buffer.proofs.Walk.{Body, G, record-tells, record-makes}
 use mir.Syntax.{Opd as Operand, Place}
@@ -18,13 +18,16 @@ use prog.Wp.{spotOf}
 use ghost.Atoms.{sem}
 use types.Kit.{raw, use0, use1, feqL, Seq, Step, Goal, Post, lands, nth}
 use types.Run.{Opd, Opds}
-use denote.Laws.{Makes}
+use denote.RattleType.{Denots, Valss, flat}
+use denote.Laws.{Makes, Makess, Ises, Are, owns-make}
 use denote.Slice.{shr-slice-copy}
+use denote.Signature.{Slot, typesAt}
 use denote.Steps.{only, owned, facts, heard}
 use denote.Triple.Statement.{Contract}
 use denote.Triple.Call.{calls-at}
 use denote.Triple.Clauses.{Ended, ensured, lasts}
 use Rattle.ring_buffer.proofs.Record.{ring-makes}
+use denote.Triple.End.{all}
 use Rattle.ring_buffer.proofs.swap_record as swap
 use Rattle.ring_buffer.proofs.swap_record.Symbol as swap-def
 use Rattle.ring_buffer.proofs.record_at as fetch
@@ -45,53 +48,41 @@ module _ {M : Type 1} {𝓤 : URA M} {H : Heap 𝓤} {A : Atoms 𝓤} {K : Type 
     pub at : K → (n : ℕ) {i : ℕ} {s : Share} {v : Val} → nth 𝓤 H A n Γ ≡ ‵ (fat s (spotOf 𝓤 H E i .0) (spotOf 𝓤 H E i .1) (spotOf 𝓤 H E i .2) v) → Opd K W Γ E (copy (place i [])) v
     at t n e = load t (from t (stop t)) (look t n e)
 
--- ---- a covered function of (ring, count), with the promise φ
-abbrev asked : RattleType → Ended
-asked B = record {
-  signature = record { lifetimes = 0; outlives = []; params = plain (λ _. G) ∷ plain (λ _. usize) ∷ []; result = plain (λ _. B) };
-  kept = (yes, (yes, tt));
-}
+-- ---- a covered function of arguments by value: their types Bs, the answer's B, and the promise φ
+abbrev plains : List RattleType → List (Slot 0)
+plains [] = []
+plains (B ∷ Bs) = plain (λ _. B) ∷ plains Bs
 
-module _ (B : RattleType) (φ : RingBuffer → ℕ → B .Denot → Type 0) {M : Type 1} (𝓤 : URA M) (H : Heap 𝓤) (A : Atoms 𝓤) where
-  abbrev asked-says : Clauses 𝓤 (asked B)
-  asked-says κs a = record { ghost = Unit {0}; requires = λ _. emp 𝓤; ensures = λ _ r e. fact 𝓤 (φ (a .0) (a .1 .0) r) }
+abbrev value : List RattleType → RattleType → Ended
+value Bs B = record { signature = record { lifetimes = 0; outlives = []; params = plains Bs; result = plain (λ _. B) }; kept = all yes (plains Bs) }
 
-  abbrev pub Asked : Contract 𝓤
-  Asked = tripleOf 𝓤 H A (asked B .signature) (closing 𝓤 H A (asked B) asked-says)
+abbrev passed : List RattleType → List RattleType
+passed Bs = typesAt (plains Bs) tt
 
-  abbrev pub to-asked : RingBuffer → ℕ → Asked .Ghost
-  to-asked g n = ((tt, tt, tt, (g, (n, tt)), (ringv g ∷ [], (vint w64 n ∷ [], tt))), tt)
+module _ (Bs : List RattleType) (B : RattleType) (φ : Denots (passed Bs) → B .Denot → Type 0) {M : Type 1} (𝓤 : URA M) (H : Heap 𝓤) (A : Atoms 𝓤) where
+  abbrev value-says : Clauses 𝓤 (value Bs B)
+  value-says κs a = record { ghost = Unit {0}; requires = λ _. emp 𝓤; ensures = λ _ r e. fact 𝓤 (φ a r) }
 
-  goes-asked : Given 𝓤 H A → (g : RingBuffer) (n : ℕ) → Is G g (ringv g ∷ []) → n < 2 ^ 64 → ent 𝓤 (emp 𝓤) (Asked .pre (to-asked g n))
-  goes-asked W g n is fits = qed W [] ∵ nothing ! $ has-count ! n fits $ fjoin ! $ has-ring ! g is $ fjoin ! $ nothing ! $ join ! $ frame ! $ done !
+  abbrev pub Value : Contract 𝓤
+  Value = tripleOf 𝓤 H A (value Bs B .signature) (closing 𝓤 H A (value Bs B) value-says)
 
-  asked-told : (g : RingBuffer) (n : ℕ) (r : B .Denot) → ent 𝓤 (ensured 𝓤 H A (asked B) asked-says tt (g, (n, tt)) tt r) (fact 𝓤 (φ g n r))
-  asked-told g n r = exE 𝓤 _ (λ ws. snd∗ 𝓤 (sem 𝓤 H A (lasts (asked B) tt (g, (n, tt)) ws)) (fact 𝓤 (φ g n r)))
+  abbrev pub to-value : Denots (passed Bs) → Valss (passed Bs) → Value .Ghost
+  to-value a vs = ((tt, tt, tt, a, vs), tt)
 
--- ---- a covered function of (ring, count, x)
-abbrev asked-of : RattleType → RattleType → Ended
-asked-of D B = record {
-  signature = record { lifetimes = 0; outlives = []; params = plain (λ _. G) ∷ plain (λ _. usize) ∷ plain (λ _. D) ∷ []; result = plain (λ _. B) };
-  kept = (yes, (yes, (yes, tt)));
-}
+  goes-value : Given 𝓤 H A → Makess 𝓤 H A (passed Bs) (Ises (passed Bs)) → (a : Denots (passed Bs)) (vs : Valss (passed Bs)) → Are (passed Bs) (Ises (passed Bs)) a vs
+      → ent 𝓤 (emp 𝓤) (Value .pre (to-value a vs))
+  goes-value W mk a vs are =
+      qed W [] ∵ use0 W (‵ (owns (passed Bs) a vs)) (owns-make 𝓤 H A (passed Bs) (Ises (passed Bs)) mk a vs are) $ nothing ! $ join ! $ frame ! $ done !
 
-module _ (D B : RattleType) (φ : RingBuffer → ℕ → D .Denot → B .Denot → Type 0) {M : Type 1} (𝓤 : URA M) (H : Heap 𝓤) (A : Atoms 𝓤) where
-  abbrev of-says : Clauses 𝓤 (asked-of D B)
-  of-says κs a = record { ghost = Unit {0}; requires = λ _. emp 𝓤; ensures = λ _ r e. fact 𝓤 (φ (a .0) (a .1 .0) (a .1 .1 .0) r) }
+  value-told : (a : Denots (passed Bs)) (r : B .Denot) → ent 𝓤 (ensured 𝓤 H A (value Bs B) value-says tt a tt r) (fact 𝓤 (φ a r))
+  value-told a r = exE 𝓤 _ (λ ws. snd∗ 𝓤 (sem 𝓤 H A (lasts (value Bs B) tt a ws)) (fact 𝓤 (φ a r)))
 
-  abbrev pub AskedOf : Contract 𝓤
-  AskedOf = tripleOf 𝓤 H A (asked-of D B .signature) (closing 𝓤 H A (asked-of D B) of-says)
+-- of (ring, count), and of (ring, count, x)
+abbrev pub Asked : (B : RattleType) → (RingBuffer → ℕ → B .Denot → Type 0) → {M : Type 1} (𝓤 : URA M) (H : Heap 𝓤) (A : Atoms 𝓤) → Contract 𝓤
+Asked B φ = Value (G ∷ usize ∷ []) B (λ a r. φ (a .0) (a .1 .0) r)
 
-  abbrev pub to-of : RingBuffer → ℕ → D .Denot → Val → AskedOf .Ghost
-  to-of g n x w = ((tt, tt, tt, (g, (n, (x, tt))), (ringv g ∷ [], (vint w64 n ∷ [], (w ∷ [], tt)))), tt)
-
-  goes-of : Given 𝓤 H A → Makes 𝓤 H A D (Is D) → (g : RingBuffer) (n : ℕ) (x : D .Denot) (w : Val) → Is G g (ringv g ∷ []) → n < 2 ^ 64 → Is D x (w ∷ [])
-      → ent 𝓤 (emp 𝓤) (AskedOf .pre (to-of g n x w))
-  goes-of W mk g n x w is fits x-is =
-      qed W [] ∵ nothing ! $ owned ! D (Is D) mk x (w ∷ []) x-is $ fjoin ! $ has-count ! n fits $ fjoin ! $ has-ring ! g is $ fjoin ! $ nothing ! $ join ! $ frame ! $ done !
-
-  of-told : (g : RingBuffer) (n : ℕ) (x : D .Denot) (r : B .Denot) → ent 𝓤 (ensured 𝓤 H A (asked-of D B) of-says tt (g, (n, (x, tt))) tt r) (fact 𝓤 (φ g n x r))
-  of-told g n x r = exE 𝓤 _ (λ ws. snd∗ 𝓤 (sem 𝓤 H A (lasts (asked-of D B) tt (g, (n, (x, tt))) ws)) (fact 𝓤 (φ g n x r)))
+abbrev pub AskedOf : (D B : RattleType) → (RingBuffer → ℕ → D .Denot → B .Denot → Type 0) → {M : Type 1} (𝓤 : URA M) (H : Heap 𝓤) (A : Atoms 𝓤) → Contract 𝓤
+AskedOf D B φ = Value (G ∷ usize ∷ D ∷ []) B (λ a r. φ (a .0) (a .1 .0) (a .1 .1 .0) r)
 
 -- ---- `swap_record` and `record_at`
 -- what a swap finds, and what it leaves
@@ -143,58 +134,61 @@ module _ {M : Type 1} {𝓤 : URA M} {H : Heap 𝓤} {A : Atoms 𝓤} {K : Type 
 module _ {M : Type 1} {𝓤 : URA M} {H : Heap 𝓤} {A : Atoms 𝓤} {K : Type 0} {W : Given 𝓤 H A} {Γ : List (Item 𝓤)} {E : Env 𝓤 H} {C : Calls 𝓤 H} {Λ : Loops 𝓤 H}
     {Q : Post 𝓤 H} {d : Place} {rest : Body} where
   module _ {f : Name} {xs : List Operand} where
-    pub asks : K → FmC 𝓤 H (W .laws) C → (B : RattleType) (φ : RingBuffer → ℕ → B .Denot → Type 0) → Triple 𝓤 (C f) (Asked B φ 𝓤 H A)
-        → (g : RingBuffer) (n : ℕ) → Is G g (ringv g ∷ []) → n < 2 ^ 64
-        → Opds K W (raw (Asked B φ 𝓤 H A .pre (to-asked B φ 𝓤 H A g n)) ∷ Γ) E xs (ringv g ∷ vint w64 n ∷ [])
-        → ((v : Val) (r : B .Denot) → φ g n r → Seq K W (‵ (B .own r (v ∷ [])) ∷ Γ) (lands C Λ E d v rest Q))
-        → Seq K W Γ (runs C Λ E (seq (call f xs d) rest) Q)
-    asks t fm B φ known g n is fits os k =
-        use0 W (raw (Asked B φ 𝓤 H A .pre (to-asked B φ 𝓤 H A g n))) (goes-asked B φ 𝓤 H A W g n is fits) $
-        calls-at t fm (Asked B φ 𝓤 H A) known (to-asked B φ 𝓤 H A g n) os (λ v.
-        use1 W (later (some (λ (r : B .Denot). (‵ ftrue ⊛ ‵ (B .own r (v ∷ [])))
-        ⊛ raw (ensured 𝓤 H A (asked B) (asked-says B φ 𝓤 H A) tt (g, (n, tt)) tt r)))) (id⊢ 𝓤 _) $ await t tt $ pick t (λ r.
-        split t $ move t (1 ∷ []) $ use1 W (raw (fact 𝓤 (φ g n r))) (asked-told B φ 𝓤 H A g n r) $ heard t (φ g n r) (λ e. split t $ drop t $ k v r e)))
+    pub calls-value : K → FmC 𝓤 H (W .laws) C → (Bs : List RattleType) (B : RattleType) (φ : Denots (passed Bs) → B .Denot → Type 0) → Triple 𝓤 (C f) (Value Bs B φ 𝓤 H A)
+        → Makess 𝓤 H A (passed Bs) (Ises (passed Bs)) → (a : Denots (passed Bs)) (vs : Valss (passed Bs)) → Are (passed Bs) (Ises (passed Bs)) a vs
+        → Opds K W (raw (Value Bs B φ 𝓤 H A .pre (to-value Bs B φ 𝓤 H A a vs)) ∷ Γ) E xs (flat (passed Bs) vs)
+        → ((v : Val) (r : B .Denot) → φ a r → Seq K W (‵ (B .own r (v ∷ [])) ∷ Γ) (lands C Λ E d v rest Q)) → Seq K W Γ (runs C Λ E (seq (call f xs d) rest) Q)
+    calls-value t fm Bs B φ known mk a vs are os k =
+        use0 W (raw (Value Bs B φ 𝓤 H A .pre (to-value Bs B φ 𝓤 H A a vs))) (goes-value Bs B φ 𝓤 H A W mk a vs are) $ calls-at t fm (Value Bs B φ 𝓤 H A) known (to-value Bs B φ 𝓤 H A a vs) os (λ v.
+        use1 W (later (some (λ (r : B .Denot). (‵ ftrue ⊛ ‵ (B .own r (v ∷ []))) ⊛ raw (ensured 𝓤 H A (value Bs B) (value-says Bs B φ 𝓤 H A) tt a tt r)))) (id⊢ 𝓤 _) $ await t tt $ pick t (λ r.
+        split t $ move t (1 ∷ []) $ use1 W (raw (fact 𝓤 (φ a r))) (value-told Bs B φ 𝓤 H A a r) $ heard t (φ a r) (λ e. split t $ drop t $ k v r e)))
 
-    pub asks-of : K → FmC 𝓤 H (W .laws) C → (D B : RattleType) (φ : RingBuffer → ℕ → D .Denot → B .Denot → Type 0) → Triple 𝓤 (C f) (AskedOf D B φ 𝓤 H A) → Makes 𝓤 H A D (Is D)
+module _ {M : Type 1} {𝓤 : URA M} {H : Heap 𝓤} {A : Atoms 𝓤} {K : Type 0} {W : Given 𝓤 H A} {Γ : List (Item 𝓤)} {E : Env 𝓤 H} {C : Calls 𝓤 H} {Λ : Loops 𝓤 H}
+    {Q : Post 𝓤 H} {d : Place} {rest : Body} {xs : List Operand} where
+  module _ {f : Name} (t : K) (fm : FmC 𝓤 H (W .laws) C) where
+    pub asks : (B : RattleType) (φ : RingBuffer → ℕ → B .Denot → Type 0) → Triple 𝓤 (C f) (Asked B φ 𝓤 H A) → (g : RingBuffer) (n : ℕ) → Is G g (ringv g ∷ []) → n < 2 ^ 64
+        → Opds K W (raw (Asked B φ 𝓤 H A .pre (((tt, tt, tt, (g, (n, tt)), (ringv g ∷ [], (vint w64 n ∷ [], tt))), tt))) ∷ Γ) E xs (ringv g ∷ vint w64 n ∷ [])
+        → ((v : Val) (r : B .Denot) → φ g n r → Seq K W (‵ (B .own r (v ∷ [])) ∷ Γ) (lands C Λ E d v rest Q)) → Seq K W Γ (runs C Λ E (seq (call f xs d) rest) Q)
+    asks B φ known g n is fits =
+        calls-value t fm (G ∷ usize ∷ []) B _ known (ring-makes 𝓤 H A, (uint-makes 𝓤 H A W w64, tt)) (g, (n, tt)) (ringv g ∷ [], (vint w64 n ∷ [], tt)) (is, ((refl, fits), tt))
+
+    pub asks-of : (D B : RattleType) (φ : RingBuffer → ℕ → D .Denot → B .Denot → Type 0) → Triple 𝓤 (C f) (AskedOf D B φ 𝓤 H A) → Makes 𝓤 H A D (Is D)
         → (g : RingBuffer) (n : ℕ) (x : D .Denot) (w : Val) → Is G g (ringv g ∷ []) → n < 2 ^ 64 → Is D x (w ∷ [])
-        → Opds K W (raw (AskedOf D B φ 𝓤 H A .pre (to-of D B φ 𝓤 H A g n x w)) ∷ Γ) E xs (ringv g ∷ vint w64 n ∷ w ∷ [])
-        → ((v : Val) (r : B .Denot) → φ g n x r → Seq K W (‵ (B .own r (v ∷ [])) ∷ Γ) (lands C Λ E d v rest Q))
-        → Seq K W Γ (runs C Λ E (seq (call f xs d) rest) Q)
-    asks-of t fm D B φ known mk g n x w is fits x-is os k =
-        use0 W (raw (AskedOf D B φ 𝓤 H A .pre (to-of D B φ 𝓤 H A g n x w))) (goes-of D B φ 𝓤 H A W mk g n x w is fits x-is) $
-        calls-at t fm (AskedOf D B φ 𝓤 H A) known (to-of D B φ 𝓤 H A g n x w) os (λ v.
-        use1 W (later (some (λ (r : B .Denot). (‵ ftrue ⊛ ‵ (B .own r (v ∷ [])))
-        ⊛ raw (ensured 𝓤 H A (asked-of D B) (of-says D B φ 𝓤 H A) tt (g, (n, (x, tt))) tt r)))) (id⊢ 𝓤 _) $ await t tt $ pick t (λ r.
-        split t $ move t (1 ∷ []) $ use1 W (raw (fact 𝓤 (φ g n x r))) (of-told D B φ 𝓤 H A g n x r) $ heard t (φ g n x r) (λ e. split t $ drop t $ k v r e)))
+        → Opds K W (raw (AskedOf D B φ 𝓤 H A .pre ((tt, tt, tt, (g, (n, (x, tt))), (ringv g ∷ [], (vint w64 n ∷ [], (w ∷ [], tt)))), tt)) ∷ Γ) E xs (ringv g ∷ vint w64 n ∷ w ∷ [])
+        → ((v : Val) (r : B .Denot) → φ g n x r → Seq K W (‵ (B .own r (v ∷ [])) ∷ Γ) (lands C Λ E d v rest Q)) → Seq K W Γ (runs C Λ E (seq (call f xs d) rest) Q)
+    asks-of D B φ known mk g n x w is fits x-is =
+        calls-value t fm (G ∷ usize ∷ D ∷ []) B _ known (ring-makes 𝓤 H A, (uint-makes 𝓤 H A W w64, (mk, tt))) (g, (n, (x, tt))) (ringv g ∷ [], (vint w64 n ∷ [], (w ∷ [], tt))) (
+          is,
+          ((refl, fits), (x-is, tt)),
+        )
 
-  module _ {xs : List Operand} where
-    pub swaps : K → FmC 𝓤 H (W .laws) C → (mem : Memory → SProp 𝓤) (run : Routine → Fun 𝓤) → Triple 𝓤 (C swap-def.name) (Swap 𝓤 H A mem run)
-        → (κ : Lft) (q : Share) (x : RefT (List AckData)) (c i : ℕ) (a : AckData) → i < 2 ^ 64 → Is R a (mach a ∷ [])
-        → Opds K W (raw (Swap 𝓤 H A mem run .pre (to-swap 𝓤 H A mem run κ q x c i a)) ∷ Γ) E xs (sliceVal (x .ptr) c ∷ vint w64 i ∷ mach a ∷ [])
-        → ((r : AckData) (zs : List AckData) → Is R r (mach r ∷ []) → length zs ≡ length (now x) → Swapped (now x) i a r zs
-        → Seq K W (‵ (flft κ q) ∷ ‵ (finally R (x .name) zs) ∷ Γ) (lands C Λ E d (mach r) rest Q))
-        → Seq K W (‵ (flft κ q) ∷ ‵ (MutSlice (named 0) κ R .own x (sliceVal (x .ptr) c ∷ [])) ∷ Γ) (runs C Λ E (seq (call swap-def.name xs d) rest) Q)
-    swaps t fm mem run known κ q x c i a fits is os k =
-        use2 W (raw (Swap 𝓤 H A mem run .pre (to-swap 𝓤 H A mem run κ q x c i a))) (goes-swap 𝓤 H A mem run κ q x c i W a fits is) $
-        calls-at t fm (Swap 𝓤 H A mem run) known (to-swap 𝓤 H A mem run κ q x c i a) os (λ w.
-        use1 W (later (some (λ (r : AckData). ((‵ (flft κ q) ⊛ ‵ ftrue) ⊛ ‵ (R .own r (w ∷ [])))
-        ⊛ raw (ensured 𝓤 H A swap.ended (swap.clauses 𝓤 H A mem run) (κ, tt) (x, (i, (a, tt))) tt r)))) (id⊢ 𝓤 _) $ await t tt $ pick t (λ r. split t $ move t (1 ∷ []) $
-        use1 W (some (λ (zs : List AckData × (Unit {0} × (Unit {0} × Unit {0}))). ‵ (lasts swap.ended (κ, tt) (x, (i, (a, tt))) zs)
-        ⊛ raw (fact 𝓤 (Swapped (now x) i a r (zs .0))))) (id⊢ 𝓤 _) $ pick t (λ zs. split t $ move t (1 ∷ []) $ heard t (Swapped (now x) i a r (zs .0)) (λ e.
-        fsplit t $ fsplit t $ move t (1 ∷ []) $ feqL t (λ len.
-        -- [the last list; …; the token and what r owns]
-        move t (1 ∷ []) $ drop t $ move t (1 ∷ []) $ split t $ move t (1 ∷ []) $ itself t r w (λ r-is. split t $ move t (1 ∷ []) $ drop t $ k r (zs .0) r-is len e))))))
+  pub swaps : K → FmC 𝓤 H (W .laws) C → (mem : Memory → SProp 𝓤) (run : Routine → Fun 𝓤) → Triple 𝓤 (C swap-def.name) (Swap 𝓤 H A mem run)
+      → (κ : Lft) (q : Share) (x : RefT (List AckData)) (c i : ℕ) (a : AckData) → i < 2 ^ 64 → Is R a (mach a ∷ [])
+      → Opds K W (raw (Swap 𝓤 H A mem run .pre (to-swap 𝓤 H A mem run κ q x c i a)) ∷ Γ) E xs (sliceVal (x .ptr) c ∷ vint w64 i ∷ mach a ∷ [])
+      → ((r : AckData) (zs : List AckData) → Is R r (mach r ∷ []) → length zs ≡ length (now x) → Swapped (now x) i a r zs
+      → Seq K W (‵ (flft κ q) ∷ ‵ (finally R (x .name) zs) ∷ Γ) (lands C Λ E d (mach r) rest Q))
+      → Seq K W (‵ (flft κ q) ∷ ‵ (MutSlice (named 0) κ R .own x (sliceVal (x .ptr) c ∷ [])) ∷ Γ) (runs C Λ E (seq (call swap-def.name xs d) rest) Q)
+  swaps t fm mem run known κ q x c i a fits is os k =
+      use2 W (raw (Swap 𝓤 H A mem run .pre (to-swap 𝓤 H A mem run κ q x c i a))) (goes-swap 𝓤 H A mem run κ q x c i W a fits is) $
+      calls-at t fm (Swap 𝓤 H A mem run) known (to-swap 𝓤 H A mem run κ q x c i a) os (λ w.
+      use1 W (later (some (λ (r : AckData). ((‵ (flft κ q) ⊛ ‵ ftrue) ⊛ ‵ (R .own r (w ∷ [])))
+      ⊛ raw (ensured 𝓤 H A swap.ended (swap.clauses 𝓤 H A mem run) (κ, tt) (x, (i, (a, tt))) tt r)))) (id⊢ 𝓤 _) $ await t tt $ pick t (λ r. split t $ move t (1 ∷ []) $
+      use1 W (some (λ (zs : List AckData × (Unit {0} × (Unit {0} × Unit {0}))). ‵ (lasts swap.ended (κ, tt) (x, (i, (a, tt))) zs)
+      ⊛ raw (fact 𝓤 (Swapped (now x) i a r (zs .0))))) (id⊢ 𝓤 _) $ pick t (λ zs. split t $ move t (1 ∷ []) $ heard t (Swapped (now x) i a r (zs .0)) (λ e.
+      fsplit t $ fsplit t $ move t (1 ∷ []) $ feqL t (λ len.
+      -- [the last list; …; the token and what r owns]
+      move t (1 ∷ []) $ drop t $ move t (1 ∷ []) $ split t $ move t (1 ∷ []) $ itself t r w (λ r-is. split t $ move t (1 ∷ []) $ drop t $ k r (zs .0) r-is len e))))))
 
-    pub fetches : K → FmC 𝓤 H (W .laws) C → (mem : Memory → SProp 𝓤) (run : Routine → Fun 𝓤) → Triple 𝓤 (C fetch-def.name) (Fetch 𝓤 H A mem run)
-        → (κ : Lft) (q : Share) (x : RefT (List AckData)) (c i : ℕ) → i < 2 ^ 64
-        → Opds K W (raw (Fetch 𝓤 H A mem run .pre (to-fetch 𝓤 H A mem run κ q x c i)) ∷ ‵ (shared κ x c) ∷ Γ) E xs (sliceVal (x .ptr) c ∷ vint w64 i ∷ [])
-        → ((r : AckData) → Is R r (mach r ∷ []) → r ≡ getD (now x) i blank → Seq K W (‵ (flft κ q) ∷ ‵ (shared κ x c) ∷ Γ) (lands C Λ E d (mach r) rest Q))
-        → Seq K W (‵ (shared κ x c) ∷ ‵ (flft κ q) ∷ Γ) (runs C Λ E (seq (call fetch-def.name xs d) rest) Q)
-    fetches t fm mem run known κ q x c i fits os k =
-        use1 W (‵ (shared κ x c) ⊛ ‵ (shared κ x c)) (shr-slice-copy 𝓤 H A W (named 0) κ R .twice x (sliceVal (x .ptr) c ∷ [])) $ split t $ move t (2 ∷ 0 ∷ []) $
-        use2 W (raw (Fetch 𝓤 H A mem run .pre (to-fetch 𝓤 H A mem run κ q x c i))) (goes-fetch 𝓤 H A mem run κ q x c i W fits) $
-        calls-at t fm (Fetch 𝓤 H A mem run) known (to-fetch 𝓤 H A mem run κ q x c i) os (λ w.
-        use1 W (later (some (λ (r : AckData). ((‵ (flft κ q) ⊛ ‵ ftrue) ⊛ ‵ (R .own r (w ∷ [])))
-        ⊛ raw (ensured 𝓤 H A fetch.ended (fetch.clauses 𝓤 H A mem run) (κ, tt) (x, (i, tt)) tt r)))) (id⊢ 𝓤 _) $ await t tt $ pick t (λ r. split t $ move t (1 ∷ []) $
-        use1 W (raw (fact 𝓤 (r ≡ getD (now x) i blank))) (fetch-told 𝓤 H A mem run κ q x c i r) $ heard t (r ≡ getD (now x) i blank) (λ e.
-        split t $ move t (1 ∷ []) $ itself t r w (λ r-is. split t $ move t (1 ∷ []) $ drop t $ k r r-is e))))
+  pub fetches : K → FmC 𝓤 H (W .laws) C → (mem : Memory → SProp 𝓤) (run : Routine → Fun 𝓤) → Triple 𝓤 (C fetch-def.name) (Fetch 𝓤 H A mem run)
+      → (κ : Lft) (q : Share) (x : RefT (List AckData)) (c i : ℕ) → i < 2 ^ 64
+      → Opds K W (raw (Fetch 𝓤 H A mem run .pre (to-fetch 𝓤 H A mem run κ q x c i)) ∷ ‵ (shared κ x c) ∷ Γ) E xs (sliceVal (x .ptr) c ∷ vint w64 i ∷ [])
+      → ((r : AckData) → Is R r (mach r ∷ []) → r ≡ getD (now x) i blank → Seq K W (‵ (flft κ q) ∷ ‵ (shared κ x c) ∷ Γ) (lands C Λ E d (mach r) rest Q))
+      → Seq K W (‵ (shared κ x c) ∷ ‵ (flft κ q) ∷ Γ) (runs C Λ E (seq (call fetch-def.name xs d) rest) Q)
+  fetches t fm mem run known κ q x c i fits os k =
+      use1 W (‵ (shared κ x c) ⊛ ‵ (shared κ x c)) (shr-slice-copy 𝓤 H A W (named 0) κ R .twice x (sliceVal (x .ptr) c ∷ [])) $ split t $ move t (2 ∷ 0 ∷ []) $
+      use2 W (raw (Fetch 𝓤 H A mem run .pre (to-fetch 𝓤 H A mem run κ q x c i))) (goes-fetch 𝓤 H A mem run κ q x c i W fits) $
+      calls-at t fm (Fetch 𝓤 H A mem run) known (to-fetch 𝓤 H A mem run κ q x c i) os (λ w.
+      use1 W (later (some (λ (r : AckData). ((‵ (flft κ q) ⊛ ‵ ftrue) ⊛ ‵ (R .own r (w ∷ [])))
+      ⊛ raw (ensured 𝓤 H A fetch.ended (fetch.clauses 𝓤 H A mem run) (κ, tt) (x, (i, tt)) tt r)))) (id⊢ 𝓤 _) $ await t tt $ pick t (λ r. split t $ move t (1 ∷ []) $
+      use1 W (raw (fact 𝓤 (r ≡ getD (now x) i blank))) (fetch-told 𝓤 H A mem run κ q x c i r) $ heard t (r ≡ getD (now x) i blank) (λ e.
+      split t $ move t (1 ∷ []) $ itself t r w (λ r-is. split t $ move t (1 ∷ []) $ drop t $ k r r-is e))))
