@@ -1,4 +1,5 @@
 pub mod Getter
 pub mod Laws
 pub mod Lent
+pub mod Changed
 pub mod Thin

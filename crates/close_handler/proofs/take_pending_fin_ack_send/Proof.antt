@@ -1,4 +1,4 @@
--- `take_pending_fin_ack_send` meets its contract by `Thin.antt`'s `changed` and a walk of its MIR: the field is read behind the borrow, the transition is called on the whole record
+-- `take_pending_fin_ack_send` meets its contract by `Changed.antt`'s law and a walk of its MIR: the field is read behind the borrow, the transition is called on the whole record
 -- and its answer stored, and the field's old value is handed back.
 -- Assumes nothing.
 use mathlib.Core.Path.{_≡_, refl, ap}
@@ -20,7 +20,8 @@ use Rattle.close_handler.specs.Close.{afterTake, numberIn, owed, taken}
 use Rattle.close_handler.specs.declared.CloseBuffer.{CloseBuffer}
 use Rattle.close_handler.proofs.CloseBuffer.Laws as T′
 use Rattle.close_handler.proofs.Lent.{R, mach, typed, row, part, part-typed, part-made, pending}
-use Rattle.close_handler.proofs.Thin.{CalleeAlone, Changing, Stored, Walked, alone, changed, runs-alone}
+use Rattle.close_handler.proofs.Changed.{Changing, Stored, Walked, changed}
+use Rattle.close_handler.proofs.Thin.{CalleeAlone, alone, runs-alone}
 use Rattle.close_handler.proofs.after_take.Symbol as callee-def
 use Rattle.close_handler.proofs.after_take.Symbol.{name as #callee}
 use Rattle.close_handler.proofs.after_take.Met as callee-thm
