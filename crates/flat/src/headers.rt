@@ -3,9 +3,7 @@
 use header::BluefinHeader;
 use header::BluefinSecurityFields;
 use header::HeaderWritten;
-use header::PacketType;
 ghost use mathlib.Core.Path.{_≡_};
-ghost use Rattle.header.specs.Types.{typeOf};
 ghost use Rattle.header.specs.Header.{headerWrittenSays, headerReadSays};
 ghost use Rattle.flat.specs.Headers.{headerIn, flatHeader, noHeader, writtenOf, headerReadOf};
 
@@ -34,20 +32,6 @@ pub struct HeaderRead {
     pub refusal: u8,
 }
 
-fn type_of(n: u8) -> PacketType
-    ensures { λ r. ⌜ r ≡ typeOf n ⌝ }
-{
-    match n {
-        0 => PacketType::UnencryptedClientHello,
-        1 => PacketType::UnencryptedServerHello,
-        2 => PacketType::ClientAck,
-        3 => PacketType::UnencryptedData,
-        4 => PacketType::Ack,
-        5 => PacketType::Fin,
-        _ => PacketType::FinAck,
-    }
-}
-
 // The header that a host's numbers mean. A type number above 6 stands for the last type: who writes refuses it first.
 pub fn header_in(header: Header) -> BluefinHeader
     ensures { λ r. ⌜ r ≡ headerIn header ⌝ }
@@ -58,7 +42,7 @@ pub fn header_in(header: Header) -> BluefinHeader
     };
     BluefinHeader {
         version: header.version,
-        type_field: type_of(header.type_field),
+        type_field: header::type_of(header.type_field),
         type_specific_payload: header.type_specific_payload,
         security_fields: security,
         source_connection_id: header.source_connection_id,

@@ -52,8 +52,9 @@ module _ (s : List ℕ) (at : ℕ) (p : Packet) (rest : List ℕ) (h : Honest p)
 
   after-packet : drop (at + 20 + length (p .payload)) s ≡ rest
   after-packet =
-      let z : at + 20 + length (p .payload) ≡ at + (20 + length (p .payload)) = omega arith in
-      rw z (sym (drop-drop (20 + length (p .payload)) at s) ∙ ap (drop (20 + length (p .payload))) q ∙ drop-at (packetBytes p) rest (20 + length (p .payload)) (length-packet (p .header) (p .payload)))
+      let long = 20 + length (p .payload) in
+      let z : at + 20 + length (p .payload) ≡ at + long = omega arith in
+      rw z (sym (drop-drop long at s) ∙ ap (drop long) q ∙ drop-at (packetBytes p) rest long (length-packet (p .header) (p .payload)))
 
   header-read : headerAt s at ≡ p .header
   header-read = read-at (p .header) (h .sized) s (p .payload ++ rest) at behind

@@ -5,16 +5,7 @@ use header::PacketType;
 
 // The type of a word: the recorded ones are 0 to 6.
 pub fn read_type() -> PacketType {
-    let word = recorded::read_word();
-    match word {
-        0 => PacketType::UnencryptedClientHello,
-        1 => PacketType::UnencryptedServerHello,
-        2 => PacketType::ClientAck,
-        3 => PacketType::UnencryptedData,
-        4 => PacketType::Ack,
-        5 => PacketType::Fin,
-        _ => PacketType::FinAck,
-    }
+    header::type_of(recorded::read_u8())
 }
 
 pub fn read_security() -> BluefinSecurityFields {

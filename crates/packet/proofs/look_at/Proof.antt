@@ -42,7 +42,8 @@ seen c = let known = c .before .before .before in known .before .before
 
 paid : (c : tie.After-field-at-unchecked) {t : Bool} →
     let k = start (seen c) .args in
-    payloadMissing (length (now (k .datagram))) (k .at) (c .field-at-unchecked .result) ≡ t → lookAt (now (k .datagram)) (k .at) ≡ cond t (Fault PayloadMissing) (Packet (c .field-at-unchecked .result))
+    payloadMissing (length (now (k .datagram))) (k .at) (c .field-at-unchecked .result) ≡ t
+    → lookAt (now (k .datagram)) (k .at) ≡ cond t (Fault PayloadMissing) (Packet (c .field-at-unchecked .result))
 paid c =
     let known = c .before .before .before in
     let read = seen c in
