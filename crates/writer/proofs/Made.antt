@@ -55,7 +55,7 @@ numbered-at src dst n (suc i) (p ∷ ps) d h =
     let z : suc n + i ≡ n + suc i = omega arith in
     numbered-at src dst (suc n) i ps d (omega arith) ∙ rw z
 
-length-numbered : (src dst n : ℕ) (ps : List (List ℕ)) → length (numbered src dst n ps) ≡ length ps
+pub length-numbered : (src dst n : ℕ) (ps : List (List ℕ)) → length (numbered src dst n ps) ≡ length ps
 unfolding numbered
 length-numbered src dst n [] = refl
 length-numbered src dst n (p ∷ ps) = ap suc (length-numbered src dst (suc n) ps)
