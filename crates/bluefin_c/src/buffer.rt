@@ -4,6 +4,7 @@ use flat::buffer::Consumed;
 use flat::buffer::ConsumedBytes;
 use flat::buffer::Started;
 use ordered_bytes::OrderedBytes;
+use ordered_bytes::SlotLength;
 ghost use mathlib.Core.Path.{_≡_};
 ghost use Rattle.refusal.specs.Said.{refusalIn};
 ghost use Rattle.ordered_bytes.specs.Buffer.{bufferOf};
@@ -15,7 +16,7 @@ pub extern "C" fn bluefin_ordered_bytes_new(
     slot_width: usize,
     start_packet_number: u64,
     marks: &mut [bool],
-    lengths: &mut [u32],
+    lengths: &mut [SlotLength],
     store: &[u8],
 ) -> Started
     ensures { λ r. ⌜ (r, now (marks .exit), now (lengths .exit))
@@ -35,7 +36,7 @@ pub extern "C" fn bluefin_ordered_bytes_set_start_packet_number(
     o: OrderedBytes,
     start_packet_number: u64,
     marks: &[bool],
-    lengths: &[u32],
+    lengths: &[SlotLength],
     store: &[u8],
 ) -> Started
     ensures { λ r. ⌜ r ≡ startedOf o (starting (bufferOf o (now (marks .entry)) (now (lengths .entry)) (now (store .entry))) «start_packet_number») ⌝ }
@@ -52,7 +53,7 @@ pub extern "C" fn bluefin_ordered_bytes_buffer_in_packet(
     n: u64,
     payload: &[u8],
     marks: &mut [bool],
-    lengths: &mut [u32],
+    lengths: &mut [SlotLength],
     store: &mut [u8],
 ) -> u8
     ensures { λ r. ⌜ (r, bufferOf o (now (marks .exit)) (now (lengths .exit)) (now (store .exit)))
@@ -65,7 +66,7 @@ pub extern "C" fn bluefin_ordered_bytes_buffer_in_packet(
 pub extern "C" fn bluefin_ordered_bytes_peek(
     o: OrderedBytes,
     marks: &[bool],
-    lengths: &[u32],
+    lengths: &[SlotLength],
     store: &[u8],
 ) -> u8
     ensures { λ r. ⌜ r ≡ refusalIn (peeking (bufferOf o (now (marks .entry)) (now (lengths .entry)) (now (store .entry)))) ⌝ }
@@ -79,7 +80,7 @@ pub extern "C" fn bluefin_ordered_bytes_consume(
     len: usize,
     buf: &mut [u8],
     marks: &mut [bool],
-    lengths: &mut [u32],
+    lengths: &mut [SlotLength],
     store: &mut [u8],
 ) -> Consumed
     ensures { λ r. ⌜ (r, bufferOf (r .state) (now (marks .exit)) (now (lengths .exit)) (now (store .exit)), now (buf .exit))
@@ -95,7 +96,7 @@ pub extern "C" fn bluefin_ordered_bytes_consume_bytes(
     buf: &mut [u8],
     list: &mut [u32],
     marks: &mut [bool],
-    lengths: &mut [u32],
+    lengths: &mut [SlotLength],
     store: &mut [u8],
 ) -> ConsumedBytes
     ensures { λ r. ⌜ (r, bufferOf (r .state) (now (marks .exit)) (now (lengths .exit)) (now (store .exit)), now (buf .exit), now (list .exit))

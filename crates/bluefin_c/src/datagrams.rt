@@ -3,6 +3,7 @@
 use flat::datagrams::AcksReceived;
 use flat::packets::Parsed;
 use ordered_bytes::OrderedBytes;
+use ordered_bytes::SlotLength;
 use window::SlidingWindow;
 ghost use mathlib.Core.Path.{_≡_};
 ghost use Rattle.ordered_bytes.specs.Buffer.{bufferOf};
@@ -16,7 +17,7 @@ pub extern "C" fn bluefin_receive(
     index: &mut [u32],
     answers: &mut [u8],
     marks: &mut [bool],
-    lengths: &mut [u32],
+    lengths: &mut [SlotLength],
     store: &mut [u8],
 ) -> Parsed
     ensures { λ r. ⌜ (r, now (index .exit), now (answers .exit), bufferOf o (now (marks .exit)) (now (lengths .exit)) (now (store .exit)))

@@ -27,7 +27,7 @@ use Rattle.ordered_bytes.specs.Calls.{creating, accepting, consuming, consuming
 use Rattle.lists.proofs.Order.{either}
 use Rattle.ordered_bytes.proofs.View as buffer
 use Rattle.ordered_bytes.proofs.View.{view-fresh, length-held}
-use Rattle.ordered_bytes.proofs.Walk.{walk-full, consumed-part, consumed-whole}
+use Rattle.ordered_bytes.proofs.Walk.{walk-full, consumed-part, consumed-whole, front-held}
 use Rattle.ordered_bytes.proofs.Outcome.{Creating, makes, create-ways, Acceptable, Accepting, malformed, refused, stores, accept-ways}
 use Rattle.ordered_bytes.proofs.Outcome.{Consuming, short, reads as takes-bytes, consume-ways}
 use Rattle.ordered_bytes.proofs.Refused.{accept-never, peek-never, Ends, values, eight, ten, ends-eight, consume-ends, consume-never, consume-bytes-ends, consume-bytes-never}
@@ -65,14 +65,6 @@ front-made (suc c) (some p ∷ h) (q ∷ ps) agrees e =
     let same : q ≡ p = cc in
     let rest = front-made c h ps (λ i x u. agrees (suc i) x u) (omega arith) in
     (rw (same, rest .0), suc-le-suc (rest .1))
-
-front-held : (c : ℕ) (h : List (Option (List ℕ))) (i : ℕ) → length (payloads c h) ≡ c → i < c → isHeld (getD h i none) ≡ true
-unfolding payloads
-front-held zero h i e less = absurd (omega arith)
-front-held (suc c) [] i e less = absurd (omega arith)
-front-held (suc c) (none ∷ h) i e less = absurd (omega arith)
-front-held (suc c) (some p ∷ h) zero e less = refl
-front-held (suc c) (some p ∷ h) (suc i) e less = front-held c h i (omega arith) (omega arith)
 
 -- ---- a fresh link, and more payloads made
 

@@ -18,7 +18,8 @@ use Rattle.lists.proofs.Flatten.{flatten-append}
 use Rattle.packet.specs.Packet.{Packet}
 use Rattle.writer.specs.Packing.{payloadSize, payloadsOf, numbered, sum}
 use Rattle.writer.specs.declared.DataPacked.{DataPacked}
-use Rattle.writer.proofs.Made.{payloads-joined, count-payloads, payload-some, payload-small, dequeued-adds-up, Says, takes, stays, packing-says}
+use Rattle.writer.proofs.Made.{payloads-joined, count-payloads, payload-some, payload-small, dequeued-adds-up}
+use Rattle.writer.proofs.Made.{length-numbered, Says, takes, stays, packing-says}
 use Rattle.ordered_bytes.specs.declared.OrderedBytes.{OrderedBytes}
 use Rattle.link.specs.Demand3.{SenderSide, SenderCall, enqueue, pack, reserve, Link, Memory, fresh, Called, enqueued, limitOf, packedBy, reservedBy, callSender}
 use Rattle.link.specs.Demand3.{In, All, MadeEarlier, FairSender, Made}
@@ -129,11 +130,6 @@ unfolding numberedFrom
 numbered-next false next n more same none = rw (same refl)
 numbered-next true next n [] same none = refl
 numbered-next true next n (p ∷ more) same none = absurd (omega (arith, none refl))
-
-length-numbered : (src dst n : ℕ) (ps : List (List ℕ)) → length (numbered src dst n ps) ≡ length ps
-unfolding numbered
-length-numbered src dst n [] = refl
-length-numbered src dst n (p ∷ ps) = ap suc (length-numbered src dst (suc n) ps)
 
 -- what a call keeps, which may add payloads to those made before it
 pub record SenderDoes (s : ℕ) (payloads : List (List ℕ)) (c : Called SenderSide) : Type 0 where

@@ -1,21 +1,21 @@
 -- The window's side of the invariant: a fresh window has it, and every call on the window keeps it and is not refused with 12; and what follows of the number expected.
 -- What a call says and which numbers it leaves held is taken from the window's own laws; here it is joined to what has entered.
 -- Assumes nothing.
-use Prim.Native.Nat.{ℕ, zero, suc, _+_, _-_, _≤_, _<_}
+use Prim.Native.Nat.{ℕ, _+_, _-_, _≤_, _<_}
 use mathlib.Core.Path.{_≡_, refl, sym, ap, _∙_}
 use mathlib.Core.Bool.{Bool, true, false, _||_, false≢true, or-true}
 use mathlib.Core.List.{List, _++_}
 use mathlib.Core.Option.{Option}
-use native.Mathlib.Nat.{le-of-suc-le-suc, not-suc-le-zero, le-refl}
+use native.Mathlib.Nat.{le-refl}
 use native.Mathlib.Omega.{arith}
 use lib.Dec.{ltb, leb}
 use borrow.Author.Tests.{ltb-true, ltb-false, le-leb, ne-eqb}
 use Rattle.lists.proofs.Tests.{both}
-use Rattle.window.specs.Window.{Outcome, expected, held, member, wellFormed, numbers, insertPacketNumber, beforeHeld, insertRange, consume}
+use Rattle.window.specs.Window.{Outcome, expected, held, member, wellFormed, numbers, insertPacketNumber, insertRange, consume}
 use Rattle.window.specs.declared.SlidingWindow.{SlidingWindow}
 use Rattle.ordered_bytes.specs.declared.OrderedBytes.{OrderedBytes}
 use Rattle.window.proofs.Rises.{bound, not-below, well-formed}
-use Rattle.window.proofs.Members.{among, member-append, member-numbers}
+use Rattle.window.proofs.Members.{among, member-append, member-numbers, Before, before-is}
 use Rattle.window.proofs.Calls as calls
 use Rattle.link.specs.Demand3.{WindowSide, WindowCall, insert, insert-range, consume-window, Ack, Link, Memory, Called, withCells, withEntered}
 use Rattle.link.specs.Demand3.{insertedBy, rangeInsertedBy, consumedBy, expectsAfter, callWindow, fresh, In, FairWindow, ExpectsFirst}
@@ -26,17 +26,6 @@ use Rattle.link.proofs.Invariant.{WindowKeeps}
 
 member-entering : (n b k : ℕ) (xs : List ℕ) → member n (numbers b k ++ xs) ≡ (among b k n || member n xs)
 member-entering n b k xs = rw (member-append n (numbers b k) xs, member-numbers n b k)
-
--- how many numbers stand before the first member, told by that one
-before-is : (b k count : ℕ) (xs : List ℕ) → k < count → ((i : ℕ) → i < k → member (b + i) xs ≡ false) → member (b + k) xs ≡ true → beforeHeld b count xs ≡ k
-unfolding beforeHeld
-before-is b k zero xs l f m = absurd (not-suc-le-zero l)
-before-is b zero (suc c) xs l f m = let z : b + 0 ≡ b = omega arith in rw (rw z at m)
-before-is b (suc k) (suc c) xs l f m =
-    let z : b + 0 ≡ b = omega arith in
-    let up : (i : ℕ) → b + suc i ≡ suc b + i = λ i. omega arith in
-    rw (rw z at (f 0 (omega arith)))
-    (ap suc (before-is (suc b) k c xs (le-of-suc-le-suc l) (λ i h. rw (up i) at (f (suc i) (omega arith))) (rw (up k) at m)))
 
 -- ---- what the window's laws leave unsaid
 
@@ -116,7 +105,8 @@ module _ {s f : ℕ} {d : WindowSide} (v : WindowKeeps s f d) where
       by o (calls.stops k u q free m a) g =
           let none-before : (i : ℕ) → i < k → member (base + i) (d .entered) ≡ false =
           λ i h. let low = a .above (omega arith) in sym (v .same (base + i) (omega arith)) ∙ free i h in
-          rw (q, before-is base k count (d .entered) u none-before (held-entered (base + k) m)) (adds-keeps o base k g a (omega arith))
+          let before : Before base count (d .entered) k = record { within = omega arith; free = none-before; held = λ h. held-entered (base + k) m } in
+          rw (q, before-is base count k (d .entered) before) (adds-keeps o base k g a (omega arith))
       by o (calls.refusal r q not-7 not-12) g = rw (q, ne-eqb r 7 not-7) v
 
   -- ---- the run is consumed

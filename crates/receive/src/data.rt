@@ -10,6 +10,7 @@ ghost use Rattle.ordered_bytes.specs.Calls.{acceptedSays};
 ghost use Rattle.receive.specs.Datagram.{accepts, progress, takes, takesListed, WellBuffer, Leaves};
 use ordered_bytes::Accepted;
 use ordered_bytes::OrderedBytes;
+use ordered_bytes::SlotLength;
 
 // The type of a data packet.
 const DATA: u8 = 3;
@@ -22,7 +23,7 @@ pub fn accept_all(
     n: usize,
     answers: &mut [u8],
     marks: &mut [bool],
-    lengths: &mut [u32],
+    lengths: &mut [SlotLength],
     store: &mut [u8],
 )
     requires { ⌜ WellBuffer (bufferOf o (now marks) (now lengths) (now store)) × Listed (now datagram) (now index) n × (n ≤ length (now answers)) ⌝ }
@@ -50,7 +51,7 @@ fn accept_listed(
     i: usize,
     answers: &mut [u8],
     marks: &mut [bool],
-    lengths: &mut [u32],
+    lengths: &mut [SlotLength],
     store: &mut [u8],
 )
     requires { ⌜ WellBuffer (bufferOf o (now marks) (now lengths) (now store)) × (at + 20 + len ≤ length (now datagram)) × (i < length (now answers)) ⌝ }

@@ -6,6 +6,7 @@ ghost use Rattle.packet.specs.Datagram.{parsedSays};
 ghost use Rattle.ordered_bytes.specs.Buffer.{bufferOf};
 ghost use Rattle.receive.specs.Datagram.{acksOf, receiving, receivingAcks};
 use ordered_bytes::OrderedBytes;
+use ordered_bytes::SlotLength;
 use packet::Indexed;
 use packet::Parsed;
 use refusal::Refusal;
@@ -28,7 +29,7 @@ pub fn receive(
     index: &mut [u32],
     answers: &mut [u8],
     marks: &mut [bool],
-    lengths: &mut [u32],
+    lengths: &mut [SlotLength],
     store: &mut [u8],
 ) -> Indexed
     ensures { λ r. ⌜
