@@ -3,9 +3,6 @@ use borrow.Author.Needs.{needs}
 use Rattle.flat.proofs.acked.run_of.Statement.{statement}
 use Rattle.flat.proofs.acked.run_of.Tie as tie
 
-enum-told : tie.Need-enum-told
-enum-told c = search needs
-
 returns : tie.Need-returns
 returns c = simp (c .before .answer .given .1)
 
@@ -16,4 +13,4 @@ returns-3 : tie.Need-returns-3
 returns-3 c = simp (c .before .before .answer2 .given .1, c .number .ensures)
 
 pub run-of-spec : {M : Type 1} → statement M
-run-of-spec = tie.close (tie.spec (λ c. search needs) enum-told (λ c. search needs) (λ c κs. search needs) returns returns-2 returns-3)
+run-of-spec = tie.close (tie.spec (λ c. search needs) (λ c. search needs) (λ c. search needs) (λ c κs. search needs) returns returns-2 returns-3)
