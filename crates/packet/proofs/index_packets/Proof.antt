@@ -8,7 +8,7 @@ use denote.Ref.{now}
 use borrow.Author.Needs.{needs}
 use Rattle.packet.specs.declared.Advance.{Advance}
 use Rattle.packet.specs.Datagram.{walkAt, readingLimit, cellsIn, indexes}
-use Rattle.packet.specs.Step.{outcome, Stepped}
+use Rattle.packet.specs.Step.{outcome, Onward, Stepped}
 use Rattle.packet.proofs.Walk.{out-ending, begin-long, begin-short, begin-walk, out-all}
 use Rattle.packet.proofs.index_packets.Statement.{statement}
 use Rattle.packet.proofs.index_packets.Tie as tie
@@ -17,7 +17,7 @@ abbrev Inv-loop : tie.InvT-loop
 Inv-loop datagram index₀ room types at₀ n₀ index at n =
     (at ≤ length datagram)
     × (n ≤ room)
-    × (length datagram ≤ readingLimit)
+    × (length datagram ≤ 65527)
     × (length index ≡ length index₀)
     × (outcome room n index (walkAt datagram at) ≡ indexes datagram index₀)
 
@@ -65,42 +65,22 @@ returns-3 c =
     let made = c .before .before .before in
     sym (stepped made (c .before .found .given .1) _) ∙ made .before .before .loop .inv .4
 
-mul-cell : tie.Need-mul-cell Inv-loop μ-loop
-mul-cell c = let on = stepped (c .before .before .before) (c .before .found2 .given .1) in omega (arith, on .free)
-
-cast-index : tie.Need-cast-index Inv-loop μ-loop
-unfolding readingLimit
-cast-index c = omega arith
-
-slice-write-index : tie.Need-slice-write-index Inv-loop μ-loop
-slice-write-index c = let on = stepped (c .before .before .before) (c .before .found2 .given .1) in omega (arith, on .free)
-
-cast-index-2 : tie.Need-cast-index-2 Inv-loop μ-loop
-unfolding readingLimit
-cast-index-2 c = let on = stepped (c .before .before .before) (c .before .found2 .given .1) in omega (arith, on .behind, on .within)
-
-add-index : tie.Need-add-index Inv-loop μ-loop
-add-index c = let on = stepped (c .before .before .before) (c .before .found2 .given .1) in omega (arith, on .free)
-
-slice-write-index-2 : tie.Need-slice-write-index-2 Inv-loop μ-loop
-slice-write-index-2 c = let on = stepped (c .before .before .before) (c .before .found2 .given .1) in simp length-set (omega (arith, on .free))
-
-add-n : tie.Need-add-n Inv-loop μ-loop
-add-n c = let on = stepped (c .before .before .before) (c .before .found2 .given .1) in omega (arith, on .free)
-
-loop-less : tie.Need-loop-less Inv-loop μ-loop
-loop-less c = let on = stepped (c .before .before .before) (c .before .found2 .given .1) in omega (arith, on .behind, on .within)
+-- a packet met, and its cell free
+on : (c : tie.After-known-told2 Inv-loop μ-loop) →
+    let k = let made = c .before .before .before in made .before .before in
+    let met = c .before .found2 .given .0 in
+    Onward (now (start k .args .datagram)) (room k) (k .loop .at) (k .loop .n) (met .0) (met .1 .0)
+on c = stepped (c .before .before .before) (c .before .found2 .given .1)
 
 loop-again : tie.Need-loop-again Inv-loop μ-loop
 loop-again c =
-    let made = c .before .before .before in
-    let inv = made .before .before .loop .inv in
-    let on = stepped made (c .before .found2 .given .1) in
-    (on .within, omega (arith, on .free), inv .2, simp length-set (inv .3), sym (on .rest _) ∙ inv .4)
+    let inv = let made = c .before .before .before in made .before .before .loop .inv in
+    (on c .within, omega (arith, on c .free), inv .2, simp length-set (inv .3), sym (on c .rest _) ∙ inv .4)
 
 pub index-packets-spec : {M : Type 1} → statement M
 index-packets-spec =
     tie.close
     (tie.spec Inv-loop μ-loop returns returns-2 (λ c κs. search needs) loop-holds step-at-requires (λ c. search needs) same-length returns-3
-    (λ c. search needs) mul-cell cast-index (λ c. search needs) slice-write-index cast-index-2 add-index (λ c. search needs) slice-write-index-2 add-n
-    loop-less loop-again)
+    (λ c. search needs) (λ c. omega (arith, on c .free)) (λ c. omega arith) (λ c. search needs) (λ c. omega (arith, on c .free))
+    (λ c. omega (arith, on c .behind, on c .within)) (λ c. omega (arith, on c .free)) (λ c. search needs) (λ c. simp length-set (omega (arith, on c .free)))
+    (λ c. omega (arith, on c .free)) (λ c. omega (arith, on c .behind, on c .within)) loop-again)
