@@ -7,7 +7,7 @@ use lib.Seq.{paste}
 use lib.Dec.{ltb, eqb}
 use Rattle.refusal.specs.Refusal.{numberOf}
 use Rattle.refusal.specs.Said.{Said, answers, refuses, checks}
-use Rattle.header.specs.Header.{headerBytes, headerOf, withNumber}
+use Rattle.header.specs.Header.{headerBytes, plainHeader}
 use Rattle.header.specs.declared.BluefinHeader.{BluefinHeader}
 use Rattle.header.specs.declared.PacketType.the-variants.{Ack}
 unfoldable pub use Rattle.packet.specs.Sizes.{datagramLimit}
@@ -29,7 +29,7 @@ acksTaken g ys used = take (ackCount g used) (contents g ys)
 -- "a type 4 header with number = base, field = count"
 abbrev pub ackHeader : ℕ → ℕ → AckData → BluefinHeader
 ackHeader src dst a =
-    withNumber (headerOf src dst Ack (a .«num_packets_consumed») (record { «header_encrypted» = false; «header_protection_mask» = 0 })) (a .«base_packet_num»)
+    plainHeader src dst Ack (a .«num_packets_consumed») (a .«base_packet_num»)
 
 -- the headers of acks end to end
 unfoldable pub ackBytes : ℕ → ℕ → List AckData → List ℕ

@@ -1,6 +1,6 @@
 -- Packing queued data into a datagram: document 01, "From the queue to a datagram", its first paragraph. Reference: `consume_data_into`.
 use Prim.Native.Nat.{ℕ, zero, suc, _+_, _-_, _*_, _/_, min}
-use mathlib.Core.Bool.{Bool, false, not, cond}
+use mathlib.Core.Bool.{Bool, not, cond}
 use mathlib.Core.List.{List, [], _∷_}
 use lib.ListN.{length, take, drop}
 use lib.Seq.{paste}
@@ -8,7 +8,7 @@ use lib.Dec.{ltb, leb, eqb}
 use Rattle.refusal.specs.Refusal.{numberOf}
 use Rattle.refusal.specs.Said.{Said, answers, refuses, checks}
 use Rattle.lists.specs.Numbers.{largest}
-use Rattle.header.specs.Header.{headerOf, withNumber}
+use Rattle.header.specs.Header.{plainHeader}
 use Rattle.header.specs.declared.PacketType.the-variants.{UnencryptedData}
 use Rattle.packet.specs.Packet.{Packet, joined}
 unfoldable pub use Rattle.packet.specs.Sizes.{payloadSize}
@@ -53,7 +53,7 @@ payloadsOf limit bytes = cut payloadSize (packetsFor (bytesTaken limit (length b
 -- "type 3, version 0, security byte 0, ids as given, field = payload length"
 abbrev pub dataPacket : ℕ → ℕ → ℕ → List ℕ → Packet
 dataPacket src dst n payload = record {
-  header = withNumber (headerOf src dst UnencryptedData (length payload) (record { «header_encrypted» = false; «header_protection_mask» = 0 })) n;
+  header = plainHeader src dst UnencryptedData (length payload) n;
   payload = payload;
 }
 
