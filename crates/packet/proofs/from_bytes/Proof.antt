@@ -7,9 +7,6 @@ use Rattle.packet.proofs.Walk.{parses-counted, parses-refused, parses-r
 use Rattle.packet.proofs.from_bytes.Statement.{statement}
 use Rattle.packet.proofs.from_bytes.Tie as tie
 
-enum-told : tie.Need-enum-told
-enum-told c = search needs
-
 returns : tie.Need-returns
 returns c =
     let parsed = c .before .before in
@@ -32,5 +29,5 @@ returns-3 c =
 pub from-bytes-spec : {M : Type 1} → statement M
 from-bytes-spec =
     tie.close
-    (tie.spec (λ c κs. search needs) enum-told (λ c κs. search needs) (λ c. search needs) (λ c. search needs) (λ c. search needs) returns returns-2
-    returns-3)
+    (tie.spec (λ c κs. search needs) (λ c. search needs) (λ c κs. search needs) (λ c. search needs) (λ c. search needs) (λ c. search needs) returns
+    returns-2 returns-3)

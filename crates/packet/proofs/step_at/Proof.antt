@@ -13,9 +13,6 @@ use Rattle.packet.proofs.step_at.Tie as tie
 seen : (c : tie.After-look-at) {r : Look} → c .look-at .result ≡ r → lookAt (now (c .before .before .args .datagram)) (c .before .before .args .at) ≡ r
 seen c q = sym (c .look-at .ensures) ∙ q
 
-enum-told : tie.Need-enum-told
-enum-told c = search needs
-
 returns : tie.Need-returns
 returns c index =
     let found = c .before .before in
@@ -48,4 +45,5 @@ returns-4 c =
 pub step-at-spec : {M : Type 1} → statement M
 step-at-spec =
     tie.close
-    (tie.spec (λ c κs. search needs) enum-told (λ c. search needs) (λ c. search needs) returns (λ c. search needs) add-t16 returns-2 returns-3 returns-4)
+    (tie.spec (λ c κs. search needs) (λ c. search needs) (λ c. search needs) (λ c. search needs) returns (λ c. search needs) add-t16 returns-2
+    returns-3 returns-4)

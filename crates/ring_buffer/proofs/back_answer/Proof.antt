@@ -7,17 +7,11 @@ use borrow.Author.Needs.{needs}
 use Rattle.ring_buffer.proofs.back_answer.Statement.{statement}
 use Rattle.ring_buffer.proofs.back_answer.Tie as tie
 
-is-well-formed-requires : tie.Need-is-well-formed-requires
-is-well-formed-requires c κs = search needs
-
 returns : tie.Need-returns
 returns c ys a e q =
     let start = c .before .before .before .args in
     let w = sym (c .before .before .is-well-formed .ensures) ∙ c .before .if1 .taken in
     rw (found-full (start .ring) ys (start .capacity) e w (c .if2 .taken) a _ _ q) (says (sym (back-full (start .ring) ys (start .capacity) e w (c .if2 .taken) a)))
-
-slot-requires : tie.Need-slot-requires
-slot-requires c κs = search needs
 
 add-t12 : tie.Need-add-t12
 add-t12 c =
@@ -41,4 +35,4 @@ returns-3 c ys a e q =
     says (sym (back-malformed (start .ring) ys (start .capacity) e w a))
 
 pub back-answer-spec : {M : Type 1} → statement M
-back-answer-spec = tie.close (tie.spec is-well-formed-requires returns slot-requires add-t12 returns-2 returns-3)
+back-answer-spec = tie.close (tie.spec (λ c κs. search needs) returns (λ c κs. search needs) add-t12 returns-2 returns-3)

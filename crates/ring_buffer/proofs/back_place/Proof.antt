@@ -9,9 +9,6 @@ use Rattle.ring_buffer.proofs.back_place.Tie as tie
 returns : tie.Need-returns
 returns c = simp (eq-eqb _ _ (c .if1 .taken), and-false)
 
-is-well-formed-requires : tie.Need-is-well-formed-requires
-is-well-formed-requires c κs = search needs
-
 returns-2 : tie.Need-returns-2
 returns-2 c = simp (sym (c .before .is-well-formed .ensures) ∙ c .if2 .taken, ne-eqb _ _ (c .before .before .if1 .left))
 
@@ -19,4 +16,4 @@ returns-3 : tie.Need-returns-3
 returns-3 c = simp (sym (c .before .is-well-formed .ensures) ∙ c .if2 .left)
 
 pub back-place-spec : {M : Type 1} → statement M
-back-place-spec = tie.close (tie.spec returns is-well-formed-requires returns-2 returns-3)
+back-place-spec = tie.close (tie.spec returns (λ c κs. search needs) returns-2 returns-3)

@@ -7,12 +7,6 @@ use borrow.Author.Needs.{needs}
 use Rattle.ring_buffer.proofs.clear_answer.Statement.{statement}
 use Rattle.ring_buffer.proofs.clear_answer.Tie as tie
 
-is-well-formed-requires : tie.Need-is-well-formed-requires
-is-well-formed-requires c κs = search needs
-
-popped-by-requires : tie.Need-popped-by-requires
-popped-by-requires c κs = search needs
-
 returns : tie.Need-returns
 returns c ys e =
     let start = c .before .before .before .args in
@@ -26,4 +20,4 @@ returns-2 c ys e =
     says (sym (clear-malformed (start .ring) ys (start .capacity) e w))
 
 pub clear-answer-spec : {M : Type 1} → statement M
-clear-answer-spec = tie.close (tie.spec is-well-formed-requires popped-by-requires returns returns-2)
+clear-answer-spec = tie.close (tie.spec (λ c κs. search needs) (λ c κs. search needs) returns returns-2)

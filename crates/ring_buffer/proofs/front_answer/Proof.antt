@@ -7,17 +7,11 @@ use borrow.Author.Needs.{needs}
 use Rattle.ring_buffer.proofs.front_answer.Statement.{statement}
 use Rattle.ring_buffer.proofs.front_answer.Tie as tie
 
-is-well-formed-requires : tie.Need-is-well-formed-requires
-is-well-formed-requires c κs = search needs
-
 returns : tie.Need-returns
 returns c ys a e q =
     let start = c .before .before .before .args in
     let w = sym (c .before .before .is-well-formed .ensures) ∙ c .before .if1 .taken in
     rw (found-full (start .ring) ys (start .capacity) e w (c .if2 .taken) a _ _ q) (says (sym (front-full (start .ring) ys (start .capacity) e w (c .if2 .taken) a)))
-
-front-place-requires : tie.Need-front-place-requires
-front-place-requires c κs = search needs
 
 add-t11 : tie.Need-add-t11
 add-t11 c =
@@ -40,4 +34,4 @@ returns-3 c ys a e q =
     says (sym (front-malformed (start .ring) ys (start .capacity) e w a))
 
 pub front-answer-spec : {M : Type 1} → statement M
-front-answer-spec = tie.close (tie.spec is-well-formed-requires returns front-place-requires add-t11 returns-2 returns-3)
+front-answer-spec = tie.close (tie.spec (λ c κs. search needs) returns (λ c κs. search needs) add-t11 returns-2 returns-3)

@@ -12,18 +12,12 @@ use Rattle.ring_buffer.proofs.front_place.Tie as tie
 returns : tie.Need-returns
 returns c = simp (eq-eqb _ _ (c .if1 .taken), and-false)
 
-is-well-formed-requires : tie.Need-is-well-formed-requires
-is-well-formed-requires c κs = search needs
-
 sub-result : tie.Need-sub-result
 sub-result c =
     let start = c .before .before .before .before .args in
     let w = sym (c .before .before .is-well-formed .ensures) ∙ c .before .if2 .taken in
     let fits = room (start .ring) (start .capacity) w in
     omega (arith, c .before .before .before .if1 .left)
-
-sub-result-2 : tie.Need-sub-result-2
-sub-result-2 c = search needs
 
 returns-2 : tie.Need-returns-2
 returns-2 c =
@@ -41,4 +35,4 @@ returns-4 : tie.Need-returns-4
 returns-4 c = simp (sym (c .before .is-well-formed .ensures) ∙ c .if2 .left)
 
 pub front-place-spec : {M : Type 1} → statement M
-front-place-spec = tie.close (tie.spec returns is-well-formed-requires sub-result sub-result-2 returns-2 returns-3 returns-4)
+front-place-spec = tie.close (tie.spec returns (λ c κs. search needs) sub-result (λ c. search needs) returns-2 returns-3 returns-4)

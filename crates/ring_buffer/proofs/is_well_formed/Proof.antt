@@ -8,9 +8,6 @@ use Rattle.ring_buffer.proofs.is_well_formed.Tie as tie
 returns : tie.Need-returns
 returns c = simp (lt-leb _ _ (c .if1 .taken))
 
-slot-requires : tie.Need-slot-requires
-slot-requires c κs = search needs
-
 returns-2 : tie.Need-returns-2
 returns-2 c = simp (le-leb _ _ (c .before .before .if1 .left), eq-eqb _ _ (c .before .if2 .taken), eq-eqb _ _ (c .if3 .taken))
 
@@ -27,4 +24,4 @@ returns-5 : tie.Need-returns-5
 returns-5 c = simp (le-leb _ _ (c .before .before .if1 .left), ne-eqb _ _ (c .before .if2 .left), le-ltb _ _ (c .if4 .left))
 
 pub is-well-formed-spec : {M : Type 1} → statement M
-is-well-formed-spec = tie.close (tie.spec returns slot-requires returns-2 returns-3 returns-4 returns-5)
+is-well-formed-spec = tie.close (tie.spec returns (λ c κs. search needs) returns-2 returns-3 returns-4 returns-5)

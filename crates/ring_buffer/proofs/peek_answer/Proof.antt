@@ -9,9 +9,6 @@ use borrow.Author.Needs.{needs}
 use Rattle.ring_buffer.proofs.peek_answer.Statement.{statement}
 use Rattle.ring_buffer.proofs.peek_answer.Tie as tie
 
-is-well-formed-requires : tie.Need-is-well-formed-requires
-is-well-formed-requires c κs = search needs
-
 returns : tie.Need-returns
 returns c ys e q =
     let start = c .before .before .before .args in
@@ -31,4 +28,4 @@ returns-3 c ys e q =
     sym (peek-malformed (start .ring) ys (start .capacity) e w)
 
 pub peek-answer-spec : {M : Type 1} → statement M
-peek-answer-spec = tie.close (tie.spec is-well-formed-requires returns returns-2 returns-3)
+peek-answer-spec = tie.close (tie.spec (λ c κs. search needs) returns returns-2 returns-3)

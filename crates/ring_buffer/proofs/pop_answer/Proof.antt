@@ -10,17 +10,11 @@ use borrow.Author.Needs.{needs}
 use Rattle.ring_buffer.proofs.pop_answer.Statement.{statement}
 use Rattle.ring_buffer.proofs.pop_answer.Tie as tie
 
-is-well-formed-requires : tie.Need-is-well-formed-requires
-is-well-formed-requires c κs = search needs
-
 returns : tie.Need-returns
 returns c ys e q =
     let start = c .before .before .before .args in
     let w = sym (c .before .before .is-well-formed .ensures) ∙ c .before .if1 .taken in
     says (sym (pop-empty (start .ring) ys (start .capacity) e w (c .if2 .taken)))
-
-popped-by-requires : tie.Need-popped-by-requires
-popped-by-requires c κs = search needs
 
 returns-2 : tie.Need-returns-2
 returns-2 c ys e q =
@@ -37,4 +31,4 @@ returns-3 c ys e q =
     says (sym (pop-malformed (start .ring) ys (start .capacity) e w))
 
 pub pop-answer-spec : {M : Type 1} → statement M
-pop-answer-spec = tie.close (tie.spec is-well-formed-requires returns popped-by-requires returns-2 returns-3)
+pop-answer-spec = tie.close (tie.spec (λ c κs. search needs) returns (λ c κs. search needs) returns-2 returns-3)

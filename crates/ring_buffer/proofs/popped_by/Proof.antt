@@ -10,11 +10,8 @@ returns c = simp (eq-eqb _ _ (c .if1 .taken))
 returns-2 : tie.Need-returns-2
 returns-2 c = simp (ne-eqb _ _ (c .before .if1 .left), lt-ltb _ _ (c .if2 .taken))
 
-slot-requires : tie.Need-slot-requires
-slot-requires c κs = search needs
-
 returns-3 : tie.Need-returns-3
 returns-3 c = simp (ne-eqb _ _ (c .before .before .if1 .left), le-ltb _ _ (c .before .if2 .left), c .slot .ensures)
 
 pub popped-by-spec : {M : Type 1} → statement M
-popped-by-spec = tie.close (tie.spec returns returns-2 slot-requires returns-3)
+popped-by-spec = tie.close (tie.spec returns returns-2 (λ c κs. search needs) returns-3)

@@ -9,12 +9,6 @@ use Rattle.ring_buffer.proofs.slot.Tie as tie
 returns : tie.Need-returns
 returns c = simp (le-leb _ _ (c .if1 .taken))
 
-sub-left : tie.Need-sub-left
-sub-left c = search needs
-
-add-result : tie.Need-add-result
-add-result c = search needs
-
 returns-2 : tie.Need-returns-2
 returns-2 c =
     let start = c .before .before .args in
@@ -26,4 +20,4 @@ returns-3 c =
     simp (lt-leb _ _ (c .before .if1 .left), le-ltb (start .head + start .i) (start .capacity) (omega arith)) (omega arith)
 
 pub slot-spec : {M : Type 1} → statement M
-slot-spec = tie.close (tie.spec returns sub-left add-result returns-2 returns-3)
+slot-spec = tie.close (tie.spec returns (λ c. search needs) (λ c. search needs) returns-2 returns-3)
