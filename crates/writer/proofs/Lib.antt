@@ -9,4 +9,3 @@ pub mod AckChecks
 pub mod AckTurns
 pub mod AckPacking
 pub mod AckLaws
-pub mod Walking

@@ -1,12 +1,17 @@
 -- `writer::acks::any_too_large` meets its contract: a walk of its MIR, by hand, with a loop, whose turn calls the covered `slot` and `over_with`, and copies the shared
 -- slice to `record_at`. Assumes nothing.
-use mathlib.Core.Path.{_≡_, refl, sym, _∙_}
-use Prim.Native.Nat.{ℕ, _+_, _<_, _^_, zero-le}
-use native.Mathlib.{Nat.le-antisymm, Nat.lt-of-le-of-lt, Numerals.add-one-le, Numerals.add-one-dec, Omega.arith}
-use mathlib.Core.{Bool.Bool, Bool.true, Bool.false, Bool._||_, List.[], List._∷_, List.List}
-use lib.{ListN.length, ListN.getD, Dec.ltb, Dec.lit<}
-use borrow.Author.Tests.{ltb-true, ltb-false}
+use native.Mathlib.{Omega.arith}
+use mathlib.Core.{Bool._||_}
 use denote.Struct.Laws as LL
+use Rattle.walks.proofs.Names.{_≡_, refl, sym, _∙_, Bool, true, false, List, [], _∷_, ℕ, _+_, _<_, _^_, zero-le, le-antisymm, lt-of-le-of-lt, add-one-le, add-one-dec, length, getD, ltb, lit<}
+use Rattle.walks.proofs.Names.{ltb-true, ltb-false, URA, named, w64, Val, vint, vbool, SProp, ent, emp, id⊢, via, fst∗, Fml, Lft, Share, ftrue, flft, Memory, Routine, Heap, Out, Env, afterSeq}
+use Rattle.walks.proofs.Names.{afterBlock, Calls, Wp, atReturn, WpFn, Tables, afterTurn, Atoms, Fun, givenOf, tables, tablesOf, Given, Item, ‵, raw, _⊛_, ⋆, Sq, runs, anyQ, atRet, _$_, _∵_, !, qed}
+use Rattle.walks.proofs.Names.{by, move, keep, drop, use1, use2, split, join, fsplit, fjoin, suffices, frame, done, look, init, store, forget, stop, fld, from, load, lit, false-lit, of-opd, bin}
+use Rattle.walks.proofs.Names.{and-then, no-more, assigns-last, first, blocks, exec, Below, again, loops, returns, enter, params1, pass1, pass0, whole, sub, look-in, FmC, fmOf, owns, Is, uint-vals}
+use Rattle.walks.proofs.Names.{uint-tells, RefT, plain, owned, nothing, yes, usize, bool, ShrSlice, Room, slice-vals, shr-slice-tells, shr-slice-copy, Triple, onEntry, cited, says, Stays}
+use Rattle.walks.proofs.Names.{stay-none-slice, stay-none, goes-none-slice, goes-none, walkOf, Walks, ends-at, walked}
+use Rattle.walks.proofs.Steps.{of-local, sets, gets, Cell, bare, full, held, blocks-of, allocs-all, frees-held, stays-if, leaves-if, Kind, a-word, a-flag, a-struct, lent-in, in-memory, Called}
+use Rattle.walks.proofs.Steps.{calls-by, calls-value, Upto, Nearer, Nearer-wf, meets-by}
 use Rattle.ring_buffer.specs.{Ring.blank, Ring.contents, Places.slotOf, declared.AckData.AckData, declared.RingBuffer.RingBuffer}
 use Rattle.ring_buffer.proofs.{Positions.slot-queued, Record.R, Record.ringv}
 use Rattle.ring_buffer.proofs.AckData as T
@@ -15,14 +20,6 @@ use Rattle.ring_buffer.proofs.slot as slot
 use Rattle.ring_buffer.proofs.record_at as rec
 use Rattle.writer.specs.{Acks.tooLarge, AckSteps.Scanned}
 use Rattle.writer.proofs.AckTurns.{scanned-none, scanned-next}
-use Rattle.writer.proofs.Walking.{URA, named, w64, Val, vint, vbool, SProp, ent, emp, id⊢, via, fst∗, Fml, Lft, Share, ftrue, flft, Memory, Routine, Heap, Out, Env, afterSeq, afterBlock}
-use Rattle.writer.proofs.Walking.{afterTurn, Calls, Wp, atReturn, WpFn, Tables, Atoms, Fun, tables, tablesOf, givenOf, Given, Item, ‵, raw, _⊛_, ⋆, Sq, runs, anyQ, atRet, _$_, _∵_, !, qed}
-use Rattle.writer.proofs.Walking.{by, move, keep, drop, use1, use2, split, join, fsplit, fjoin, suffices, frame, done, init, store, forget, stop, fld, from, load, look, lit, false-lit}
-use Rattle.writer.proofs.Walking.{of-opd, bin, and-then, no-more, assigns-last, first, blocks, exec, Below, again, loops, returns, enter, allocs-all, params1, pass1, pass0, whole, sub}
-use Rattle.writer.proofs.Walking.{look-in, FmC, fmOf, owns, Is, uint-vals, uint-tells, bool, usize, RefT, ShrSlice, Room, slice-vals, shr-slice-tells, shr-slice-copy, plain, owned, nothing}
-use Rattle.writer.proofs.Walking.{Triple, onEntry, cited, says, Stays, stay-none-slice, stay-none, walkOf, goes-none-slice, goes-none, Walks, ends-at, walked, yes, Cell, bare, full, held}
-use Rattle.writer.proofs.Walking.{blocks-of, of-local, sets, gets, frees-held, stays-if, leaves-if, Kind, a-word, a-flag, a-struct, Called, calls-by, calls-value, lent-in, in-memory, Upto}
-use Rattle.writer.proofs.Walking.{Nearer, Nearer-wf, meets-by}
 use Rattle.writer.proofs.acks.over_with as ovr
 use Rattle.writer.proofs.acks.any_too_large as self
 use Rattle.writer.proofs.acks.any_too_large.Code as code

@@ -1,10 +1,14 @@
 -- `writer::acks::consume_acks_into` meets its contract: a walk of its MIR, by hand, with no branch and no loop: five calls, of which three are of covered functions by value;
 -- one lends records as shared, and `drain` gets both slices for good. Assumes nothing.
-use mathlib.Core.Path.{_≡_, refl, sym, subst}
-use Prim.Native.Nat.{ℕ, _<_, _^_}
-use mathlib.Core.{Bool.Bool, List.[], List._∷_, List._++_, List.List}
-use lib.ListN.{length}
 use denote.Struct.Laws as LL
+use Rattle.walks.proofs.Names.{_≡_, refl, sym, subst, Bool, List, [], _∷_, _++_, ℕ, _<_, _^_, length, URA, fullShare, named, w32, w64, Val, vunit, vint, vbool, SProp, ent, sep, emp, id⊢, via, fst∗}
+use Rattle.walks.proofs.Names.{Fml, GName, Lft, Share, ftrue, flft, Memory, Routine, Heap, Env, Calls, WpFn, Tables, Atoms, Fun, givenOf, tables, AllOutlive, tablesOf, Given, Item, ‵, raw, _⊛_, some}
+use Rattle.walks.proofs.Names.{later, ⋆, Sq, runs, atRet, _$_, _∵_, !, qed, by, move, keep, drop, use1, use2, split, join, group, pick, fsplit, fjoin, feqL, suffices, frame, await, done, look, init}
+use Rattle.walks.proofs.Names.{forget, stop, hop, fld, from, load, addr, of-opd, and-then, no-more, returns, enter, params1, pass1, pass0, agg, whole, sub, look-in, lft-new, lft-end, FmC, fmOf, owns}
+use Rattle.walks.proofs.Names.{Is, uint-vals, uint-tells, RefT, plain, owned, nothing, yes, u8, u32, usize, MutSlice, ShrSlice, Room, finally, slice-vals, mut-slice-tells, Triple, onEntry, cited}
+use Rattle.walks.proofs.Names.{says, Stays, gave-slice, stay-none, goes-gave-slice, goes-none, walkOf, Walks, ends-at, walked}
+use Rattle.walks.proofs.Steps.{of-local, sets, gets, Cell, bare, full, held, blocks-of, allocs-all, frees-held, Kind, a-number, a-word, a-flag, a-unit, a-struct, an-enum, lent-in, relent, in-memory}
+use Rattle.walks.proofs.Steps.{Called, calls-by, calls-value, meets-by}
 use Rattle.ring_buffer.specs.{declared.AckData.AckData, declared.RingBuffer.RingBuffer}
 use Rattle.ring_buffer.proofs.{Again.LentShared, Again.lends-shared, Again.back-shared, Record.R, Record.ringv}
 use Rattle.ring_buffer.proofs.RingBuffer as G
@@ -12,13 +16,6 @@ use Rattle.writer.specs.Acks.{acksSays, ringAfter, leaves, consumesAcks}
 use Rattle.writer.specs.{AckSteps.due, AckSteps.batch, AckSteps.Scanned, AckSteps.Answers, AckSteps.Packable, AckSteps.Drained}
 use Rattle.writer.specs.declared.acks.{AckBatch.AckBatch, AcksAnswer.AcksAnswer}
 use Rattle.writer.proofs.AckPacking.{packable, outcome-is}
-use Rattle.writer.proofs.Walking.{URA, fullShare, named, w32, w64, Val, vunit, vint, vbool, SProp, ent, sep, emp, id⊢, via, fst∗, Fml, GName, Lft, Share, ftrue, flft, Memory, Routine, Heap}
-use Rattle.writer.proofs.Walking.{Env, Calls, WpFn, Tables, Atoms, Fun, tables, tablesOf, givenOf, AllOutlive, Given, Item, ‵, raw, _⊛_, some, later, ⋆, Sq, runs, atRet, _$_, _∵_, !, qed, by}
-use Rattle.writer.proofs.Walking.{move, keep, drop, use1, use2, split, join, group, pick, fsplit, fjoin, feqL, suffices, frame, await, done, look, init, forget, stop, hop, fld, from, load}
-use Rattle.writer.proofs.Walking.{addr, of-opd, and-then, no-more, returns, enter, allocs-all, params1, pass1, pass0, agg, whole, sub, look-in, lft-new, lft-end, FmC, fmOf, owns, Is}
-use Rattle.writer.proofs.Walking.{uint-vals, uint-tells, u8, u32, usize, RefT, MutSlice, ShrSlice, Room, finally, slice-vals, mut-slice-tells, plain, owned, nothing, Triple, onEntry, cited}
-use Rattle.writer.proofs.Walking.{says, Stays, gave-slice, stay-none, goes-gave-slice, goes-none, walkOf, Walks, ends-at, walked, yes, Cell, bare, full, held, blocks-of, of-local, sets, gets}
-use Rattle.writer.proofs.Walking.{frees-held, Kind, a-number, a-word, a-flag, a-unit, a-struct, an-enum, relent, in-memory, Called, calls-by, calls-value, lent-in, meets-by}
 use Rattle.writer.proofs.acks.AckBatch as P
 use Rattle.writer.proofs.acks.AcksAnswer as X
 use Rattle.writer.proofs.acks.acks_due as due′

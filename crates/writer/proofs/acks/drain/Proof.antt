@@ -1,27 +1,21 @@
 -- `writer::acks::drain` meets its contract: a walk of its MIR, by hand, with a loop, whose turn calls the covered `ack_slot`, lends one slice again to `swap_record` and the
 -- other to the covered `put_ack`. Assumes nothing.
-use mathlib.Core.Path.{_≡_, refl, sym, ap, _∙_, subst}
-use Prim.Native.Nat.{ℕ, _+_, _<_, _^_, zero-le}
-use native.Mathlib.Nat.{le-antisymm, lt-of-le-of-lt}
-use native.Mathlib.{Numerals.add-one-le, Numerals.add-one-dec}
-use mathlib.Core.{Bool.Bool, Bool.true, Bool.false, List.[], List._∷_, List._++_, List.List}
-use lib.{ListN.length, ListN.getD, ListN.set, Dec.ltb, Dec.lit<}
-use borrow.Author.Tests.{ltb-true, ltb-false}
 use denote.Struct.Laws as LL
+use Rattle.walks.proofs.Names.{_≡_, refl, sym, ap, _∙_, subst, Bool, true, false, List, [], _∷_, _++_, ℕ, _+_, _<_, _^_, zero-le, le-antisymm, lt-of-le-of-lt, add-one-le, add-one-dec, length, getD}
+use Rattle.walks.proofs.Names.{set, ltb, lit<, ltb-true, ltb-false, URA, fullShare, named, w64, Val, vunit, vint, vbool, SProp, ent, emp, id⊢, Fml, GName, Lft, Share, ftrue, flft, Memory, Routine}
+use Rattle.walks.proofs.Names.{Heap, Out, Env, afterSeq, afterBlock, Calls, Wp, atReturn, WpFn, Tables, afterTurn, Atoms, Fun, fact, factI, givenOf, tables, AllOutlive, tablesOf, Given, Item, ‵, raw}
+use Rattle.walks.proofs.Names.{_⊛_, some, later, ⋆, Sq, runs, anyQ, atRet, _$_, _∵_, !, qed, by, move, keep, drop, use1, use2, use3, split, join, pick, rewrite, fsplit, fjoin, feqL, feqI, suffices}
+use Rattle.walks.proofs.Names.{frame, await, done, look, init, store, forget, stop, hop, fld, from, load, lit, unit-lit, addr, of-opd, bin, and-then, no-more, assigns-last, first, blocks, exec, Below}
+use Rattle.walks.proofs.Names.{again, loops, returns, enter, params1, pass1, pass0, agg, whole, sub, look-in, lft-new, lft-end, FmC, fmOf, owns, Is, RefT, plain, owned, nothing, yes, u8, usize}
+use Rattle.walks.proofs.Names.{MutSlice, Room, slice-vals, mut-slice-tells, Triple, onEntry, cited, says, needs, Stays, stay-slice, stay-none, goes-slice, goes-none, walkOf, Walks, ends-at, walked}
+use Rattle.walks.proofs.Steps.{of-local, sets, gets, Cell, bare, full, held, blocks-of, allocs-all, frees-held, stays-if, leaves-if, Kind, a-word, a-unit, a-struct, lent-in, relent, in-memory}
+use Rattle.walks.proofs.Steps.{owned-slice, Called, calls-by, calls-value, Upto, Nearer, Nearer-wf, meets-by}
 use Rattle.ring_buffer.specs.{Ring.blank, Places.slotOf, declared.AckData.AckData}
 use Rattle.ring_buffer.proofs.{Record.R, Record.mach, Record.blank-is, Again.LentAgain, Again.lends-at, Again.back-at, Blanked.length-blanked, Blanked.blanked-none}
 use Rattle.ring_buffer.proofs.AckData as T
 use Rattle.ring_buffer.proofs.swap_record as swap
 use Rattle.writer.specs.{AckSteps.AckFits, AckSteps.ackPut, AckSteps.Packable, AckSteps.Drained, declared.acks.AckBatch.AckBatch}
 use Rattle.writer.proofs.AckTurns.{cleared, filled, written-none, next-cleared, next-fits, next-written}
-use Rattle.writer.proofs.Walking.{URA, fullShare, named, w64, Val, vunit, vint, vbool, SProp, ent, emp, id⊢, Fml, GName, Lft, Share, ftrue, flft, Memory, Routine, Heap, Out, Env, afterSeq}
-use Rattle.writer.proofs.Walking.{afterBlock, afterTurn, Calls, Wp, atReturn, WpFn, Tables, Atoms, Fun, fact, factI, tables, tablesOf, givenOf, AllOutlive, Given, Item, ‵, raw, _⊛_, some}
-use Rattle.writer.proofs.Walking.{later, ⋆, Sq, runs, anyQ, atRet, _$_, _∵_, !, qed, by, move, keep, drop, use1, use2, use3, split, join, pick, rewrite, fsplit, fjoin, feqL, feqI, suffices}
-use Rattle.writer.proofs.Walking.{frame, await, done, look, init, store, forget, stop, hop, fld, from, load, lit, unit-lit, addr, of-opd, bin, and-then, no-more, assigns-last, first, blocks}
-use Rattle.writer.proofs.Walking.{exec, Below, again, loops, returns, enter, allocs-all, params1, pass1, pass0, agg, whole, sub, look-in, lft-new, lft-end, FmC, fmOf, owns, Is, RefT, u8}
-use Rattle.writer.proofs.Walking.{usize, MutSlice, Room, slice-vals, mut-slice-tells, plain, owned, nothing, Triple, onEntry, cited, says, needs, Stays, stay-slice, stay-none, goes-slice}
-use Rattle.writer.proofs.Walking.{goes-none, walkOf, Walks, ends-at, walked, yes, Cell, bare, full, held, blocks-of, of-local, sets, gets, frees-held, stays-if, leaves-if, Kind, a-word}
-use Rattle.writer.proofs.Walking.{a-unit, a-struct, Called, calls-by, calls-value, lent-in, relent, in-memory, owned-slice, Upto, Nearer, Nearer-wf, meets-by}
 use Rattle.writer.proofs.acks.AckBatch as P
 use Rattle.writer.proofs.acks.ack_slot as slot
 use Rattle.writer.proofs.acks.put_ack as put
