@@ -4,15 +4,18 @@
 --     told    what the answer promises
 --     Post    where the walk ends, and `exits` that it may
 -- Assumes nothing.
-use Rattle.ring_buffer.proofs.Walk.{_≡_, refl, ap, _∙_, ℕ, [], _∷_, List, length, getD, set, URA, fullShare, Name, named, place, copy, seq, call, Val, SProp, ent, Lft, Share, fat, flft}
-use Rattle.ring_buffer.proofs.Walk.{Memory, Routine, Heap, Tables, Atoms, Fun, Given, ‵, ⋆, _$_, !, by, move, keep, look, init, forget, stop, hop, fld, from, load, addr, of-opd, and-then}
-use Rattle.ring_buffer.proofs.Walk.{no-more, assigns, land, returns, free1, free0, agg, whole, sub, look-in, FmC, fmOf, Is, shows, usize, RefT, now, sliceTy, MutSlice, Room, finally}
-use Rattle.ring_buffer.proofs.Walk.{peeks, Triple, AckData, RingBuffer, R, thin, mach, ringv, wt, froom, fdies, Env, Sq, runs, atRet, RattleType, Body, G, record-ty, ring-ty, word, slice}
-use Rattle.ring_buffer.proofs.Walk.{cells, slicev, record-makes}
-use mir.Syntax.{deref, field, local, valueLocal, assign, return, rvOpd, aggregate, addrOf, Ty, Local}
 use mir.Val.{WT, hasTy}
 use lib.Dec.{T as Holds}
-use Rattle.ring_buffer.proofs.Calls.{at, Asked, asks, AskedOf, asks-of, number, Swapped, Swap, swaps}
+use Rattle.walks.proofs.Frame.{Blocks, envOf, started, leaves}
+use Rattle.walks.proofs.Names.{_≡_, refl, ap, _∙_, List, [], _∷_, ℕ, length, getD, set, URA, Name, Ty, Local, Body, named, w64, deref, field, place, copy, local, valueLocal, seq, assign, call, return}
+use Rattle.walks.proofs.Names.{rvOpd, aggregate, addrOf, Val, vint, vptr, SProp, ent, Lft, Share, flft, Memory, Routine, Heap, Tables, Atoms, Fun, Given, ‵, _⊛_, ⋆, Sq, runs, atRet, _$_, !, by, move}
+use Rattle.walks.proofs.Names.{split, group, init, stop, hop, fld, from, load, addr, of-opd, and-then, no-more, agg, whole, sub, look-in, FmC, fmOf, RattleType, Is, RefT, usize, sliceTy, MutSlice}
+use Rattle.walks.proofs.Names.{Room, finally, Triple}
+use Rattle.walks.proofs.Steps.{of-local, sets, gets, Kind, a-word}
+use Rattle.ring_buffer.specs.declared.AckData.{AckData}
+use Rattle.ring_buffer.specs.declared.RingBuffer.{RingBuffer}
+use Rattle.ring_buffer.proofs.Record.{R, G, record-ty, ring-ty, word, slice, thin, mach, ringv, cells, slicev, an-ack}
+use Rattle.ring_buffer.proofs.Calls.{Asked, asks, AskedOf, asks-of, Swapped, Swap, swaps}
 use Rattle.ring_buffer.proofs.swap_record.Symbol as swap-def
 
 -- _0 the answer, _1 ring, _2 records, _3 a, _4 n, _5 i, _6 found, _7 and _8 the slice that is passed on
@@ -32,46 +35,35 @@ abbrev pub At-place : (RingBuffer → ℕ → ℕ) → RingBuffer → ℕ → �
 At-place P g n i = i ≡ P g n
 
 -- where a walk may end: with the token, the last list, and the answer
-abbrev pub Exits : (X : RattleType) → (RingBuffer → ℕ → ℕ) → (RingBuffer → ℕ → AckData → X .Denot → Type 0)
-    → {M : Type 1} (𝓤 : URA M) (H : Heap 𝓤) (A : Atoms 𝓤) → Lft → Share → RefT (List AckData) → RingBuffer → AckData → (Val → SProp 𝓤) → Type 1
-Exits X P told 𝓤 H A κ q x g a Post =
-    (p : X .Denot) (v : Val) (zs : List AckData) (found : AckData) → length zs ≡ cells x → told g (cells x) found p → Swapped (now x) (P g (cells x)) a found zs
-    → ent 𝓤 (⋆ 𝓤 H A (‵ (flft κ q) ∷ ‵ (finally R (x .name) zs) ∷ ‵ (X .own p (v ∷ [])) ∷ [])) (Post v)
+abbrev pub Exits : (P : RingBuffer → ℕ → ℕ) {X : RattleType} → (RingBuffer → ℕ → AckData → X .Denot → Type 0)
+    → {M : Type 1} (𝓤 : URA M) (H : Heap 𝓤) (A : Atoms 𝓤) → Kind 𝓤 H A X → Lft → Share → RefT (List AckData) → RingBuffer → AckData → (Val → SProp 𝓤) → Type 1
+Exits P {X} told 𝓤 H A kx κ q x g a Post =
+    (p : X .Denot) (zs : List AckData) (found : AckData) → Is X p (kx .val p ∷ []) → length zs ≡ cells x → told g (cells x) found p → Swapped (x .now) (P g (cells x)) a found zs
+    → ent 𝓤 (⋆ 𝓤 H A (‵ (flft κ q) ∷ ‵ (finally R (x .name) zs) ∷ [])) (Post (kx .val p))
 
-module _ (X : RattleType) (tx : Ty) (P : RingBuffer → ℕ → ℕ) (told : RingBuffer → ℕ → AckData → X .Denot → Type 0)
-    {M : Type 1} (𝓤 : URA M) (H : Heap 𝓤) (A : Atoms 𝓤) (W : Given 𝓤 H A) (typed : (p : X .Denot) (v : Val) → Is X p (v ∷ []) → Holds (hasTy tx v) × WT v)
+module _ {X : RattleType} (tx : Ty) (P : RingBuffer → ℕ → ℕ) (told : RingBuffer → ℕ → AckData → X .Denot → Type 0)
+    {M : Type 1} (𝓤 : URA M) (H : Heap 𝓤) (A : Atoms 𝓤) (W : Given 𝓤 H A) (kx : Kind 𝓤 H A X) (typed : (p : X .Denot) → Is X p (kx .val p ∷ []) → Holds (hasTy tx (kx .val p)) × WT (kx .val p))
     (mem : Memory → SProp 𝓤) (run : Routine → Fun 𝓤) (kp ka : Name) (𝓣 : Tables 𝓤 H)
     (known-place : Triple 𝓤 (𝓣 .C kp) (Asked usize (At-place P) 𝓤 H A)) (known-swap : Triple 𝓤 (𝓣 .C swap-def.name) (Swap 𝓤 H A mem run)) (known-answer : Triple 𝓤 (𝓣 .C ka) (AskedOf R X told 𝓤 H A))
     (κ : Lft) (q : Share) (x : RefT (List AckData)) (g : RingBuffer) (a : AckData) (room : Room R (cells x)) (g-is : Is G g (ringv g ∷ [])) (a-is : Is R a (mach a ∷ []))
-    (Post : Val → SProp 𝓤) (exits : Exits X P told 𝓤 H A κ q x g a Post) (l₀ l₁ l₂ l₃ l₄ l₅ l₆ l₇ l₈ : ℕ) where
-  fm : FmC 𝓤 H (W .laws) (𝓣 .C)
-  fm = fmOf 𝓤 H (W .laws) 𝓣
-
-  abbrev En : Env 𝓤 H
-  En = (tx, l₀) ∷ (ring-ty, l₁) ∷ (slice, l₂) ∷ (record-ty, l₃) ∷ (word, l₄) ∷ (word, l₅) ∷ (record-ty, l₆) ∷ (thin, l₇) ∷ (sliceTy thin, l₈) ∷ []
-
+    (Post : Val → SProp 𝓤) (exits : Exits P told 𝓤 H A kx κ q x g a Post) (bs : Blocks (locals-of tx)) where
   -- from where ring, records and a lie in their locals
-  pub exchange : Sq W (‵ (froom (sliceTy thin) l₈ 0) ∷ ‵ (fdies (sliceTy thin) l₈) ∷ ‵ (froom thin l₇ 0) ∷ ‵ (fdies thin l₇) ∷ ‵ (froom record-ty l₆ 0) ∷ ‵ (fdies record-ty l₆)
-      ∷ ‵ (froom word l₅ 0) ∷ ‵ (fdies word l₅) ∷ ‵ (froom word l₄ 0) ∷ ‵ (fdies word l₄) ∷ ‵ (fat fullShare record-ty l₃ 0 (mach a)) ∷ ‵ (fdies record-ty l₃)
-      ∷ ‵ (fat fullShare slice l₂ 0 (slicev x)) ∷ ‵ (fdies slice l₂) ∷ ‵ (fat fullShare ring-ty l₁ 0 (ringv g)) ∷ ‵ (fdies ring-ty l₁) ∷ ‵ (froom tx l₀ 0) ∷ ‵ (fdies tx l₀)
-      ∷ ‵ (MutSlice (named 0) κ R .own x (slicev x ∷ [])) ∷ ‵ (flft κ q) ∷ []) (runs (𝓣 .C) (𝓣 .Λ) En (exchanged kp ka) (atRet En Post))
+  pub exchange : Sq W ((‵ (MutSlice (named 0) κ R .own x (slicev x ∷ [])) ⊛ ‵ (flft κ q)) ∷ started 𝓤 (locals-of tx) bs (ringv g ∷ slicev x ∷ mach a ∷ []) [])
+      (runs (𝓣 .C) (𝓣 .Λ) (envOf (locals-of tx) bs) (exchanged kp ka) (atRet (envOf (locals-of tx) bs) Post))
   exchange =
-      assigns ! (of-opd ! (load ! (from ! (fld ! refl (stop !))) (look-in ! 12 (sub ! 1 refl (whole !))))) (from ! (stop !)) (init ! 8 refl (tt, record { fits = room .0 })) $
-      asks ! fm usize (At-place P) known-place g (cells x) g-is (room .0) (and-then ! (at ! 15 refl) (and-then ! (at ! 9 refl) (no-more !))) (λ v i ei. number ! i v (λ i-fits.
-      land ! (from ! (stop !)) (init ! 6 refl (tt, record { fits = i-fits })) $
+      let fm : FmC 𝓤 H (W .laws) (𝓣 .C) = fmOf 𝓤 H (W .laws) 𝓣 in
+      sets ! (of-opd ! (load ! (from ! (fld ! refl (stop !))) (look-in ! 5 (sub ! 1 refl (whole !))))) (init ! 9 refl (tt, record { fits = room .0 })) $
+      asks ! fm (a-word W) (At-place P) known-place g (cells x) g-is (room .0) (and-then ! (of-local ! 4 refl) (and-then ! (of-local ! 10 refl) (no-more !))) (λ i ei i-is.
+      gets ! (init ! 11 refl (a-word W .lawful .typed i _ i-is .0)) $
       -- the slice is passed on for good
-      assigns ! (addr ! (from ! (fld ! refl (hop ! (look-in ! 12 (sub ! 0 refl (whole !))) (stop !))))) (from ! (stop !)) (init ! 2 refl (tt, tt)) $
-      assigns ! (agg ! (and-then ! (at ! 2 refl) (and-then ! (load ! (from ! (fld ! refl (stop !))) (look-in ! 12 (sub ! 1 refl (whole !)))) (no-more !))))
-      (from ! (stop !)) (init ! 0 refl (tt, (tt, (record { fits = room .0 }, tt)))) $ move ! (19 ∷ 18 ∷ []) $
-      swaps ! fm mem run known-swap κ q x (cells x) i a i-fits a-is (and-then ! (at ! 1 refl) (and-then ! (at ! 7 refl) (and-then ! (at ! 11 refl) (no-more !)))) (λ r zs r-is len e.
-      -- [the token; the last list; _8; …]
-      land ! (from ! (stop !)) (init ! 6 refl (wt 𝓤 H A W r (mach r) r-is)) $
-      asks-of ! fm R X told known-answer (record-makes 𝓤 H A) g (cells x) r (mach r) g-is (room .0) r-is
-      (and-then ! (at ! 17 refl) (and-then ! (at ! 11 refl) (and-then ! (at ! 7 refl) (no-more !)))) (λ u p ep.
-      peeks ! X (Is X) (shows 𝓤 H A X) p (u ∷ []) (λ is-p. land ! (from ! (stop !)) (init ! 19 refl (typed p u is-p)) $
-      -- [what the answer owns; the token; the last list; _8; …]
-      returns ! (look ! 19 refl) $ forget ! 3 refl $ forget ! 5 refl $ forget ! 7 refl $ forget ! 9 refl $ forget ! 11 refl $ forget ! 13 refl $ forget ! 15 refl $ forget ! 17 refl $
-      forget ! 19 refl $
-      move ! (19 ∷ 20 ∷ []) $ free1 ! $ move ! (17 ∷ 18 ∷ []) $ free1 ! $ move ! (15 ∷ 16 ∷ []) $ free1 ! $ move ! (13 ∷ 14 ∷ []) $ free1 ! $ move ! (11 ∷ 12 ∷ []) $ free1 ! $
-      move ! (9 ∷ 10 ∷ []) $ free1 ! $ move ! (7 ∷ 8 ∷ []) $ free1 ! $ move ! (5 ∷ 6 ∷ []) $ free1 ! $ move ! (3 ∷ 4 ∷ []) $ free1 ! $ free0 ! $
-      keep ! (1 ∷ 2 ∷ 0 ∷ []) $ by ! (exits p u zs r len ep (e .0 ∙ ap (λ (j : ℕ). getD (now x) j a) ei, e .1 ∙ ap (λ (j : ℕ). set (now x) j a) ei)))))))
+      sets ! (addr ! (from ! (fld ! refl (hop ! (look-in ! 5 (sub ! 0 refl (whole !))) (stop !))))) (init ! 15 refl (tt, tt)) $
+      sets ! (agg ! (and-then ! (of-local ! 15 refl) (and-then ! (load ! (from ! (fld ! refl (stop !))) (look-in ! 5 (sub ! 1 refl (whole !)))) (no-more !))))
+      (init ! 17 refl (tt, (tt, (record { fits = room .0 }, tt)))) $ split ! $ move ! (1 ∷ 0 ∷ []) $
+      swaps ! fm mem run known-swap κ q x (cells x) i a i-is a-is (and-then ! (of-local ! 17 refl) (and-then ! (of-local ! 11 refl) (and-then ! (of-local ! 7 refl) (no-more !)))) (λ r zs r-is len e.
+      -- [the token; the last list; _0; …]
+      gets ! (init ! 14 refl (an-ack W .lawful .typed r _ r-is .0)) $
+      asks-of ! fm (an-ack W) kx told known-answer g (cells x) r g-is (room .0) r-is
+      (and-then ! (of-local ! 5 refl) (and-then ! (of-local ! 11 refl) (and-then ! (of-local ! 15 refl) (no-more !)))) (λ p ep p-is.
+      gets ! (init ! 2 refl (typed p p-is)) $ group ! 2 $
+      leaves ! (locals-of tx) bs (kx .val p) (ringv g ∷ slicev x ∷ mach a ∷ vint w64 (cells x) ∷ vint w64 i ∷ mach r ∷ vptr (x .ptr .0) (x .ptr .1) ∷ slicev x ∷ []) tt $
+      by ! (exits p zs r p-is len ep (e .0 ∙ ap (λ (j : ℕ). getD (x .now) j a) ei, e .1 ∙ ap (λ (j : ℕ). set (x .now) j a) ei)))))

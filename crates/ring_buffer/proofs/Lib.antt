@@ -3,8 +3,6 @@ pub mod Cases
 pub mod Blanked
 pub mod Laws
 pub mod Record
-pub mod Again
-pub mod Walk
 pub mod Calls
 pub mod Exchange
 pub mod Push

@@ -5,6 +5,7 @@
 --     started ls bs vs Γ    the same where the body begins: room for the result, and the parameters hold vs
 --     enters                into a function. Behind the carried item, local k stands at the entry 1 + 2k
 --     leaves                out of it: the result is read, all locals are freed, and the carried item is left
+--     leaves-within         the same from within a branch or a loop
 --     loads                 a whole local as an operand
 -- Assumes nothing.
 use mathlib.Core.Path.{_≡_, refl}
@@ -17,10 +18,10 @@ use mir.Syntax.{Ty, Local, local, Fn, Body, place, copy, return}
 use mir.Val.{Val, WT, hasTy}
 use base.Logic.{SProp}
 use base.Fml.{Share, fat, froom, fdies}
-use prog.Wp.{Heap, Env, Calls, Loops, WpFn, spotOf}
+use prog.Wp.{Heap, Env, Calls, Loops, WpFn, spotOf, atReturn, returns as returnsᴼ}
 use ghost.Atoms.{Atoms}
-use types.Kit.{Given, Item, ‵, _⊛_, nth, Goal, prop, runs, allocs, params′, passes, frees, atRet, Seq, Step, step, _$_, move, join, split}
-use types.Run.{Opd, look, init, forget, stop, from, load, returns, enter, alloc1, alloc0, params1, pass1, pass0, free1, free0}
+use types.Kit.{Given, Item, ‵, _⊛_, nth, Goal, prop, runs, allocs, params′, passes, frees, atRet, Post, post, Seq, Step, step, _$_, move, join, split}
+use types.Run.{Opd, look, init, forget, stop, from, load, returns-within, enter, alloc1, alloc0, params1, pass1, pass0, free1, free0}
 
 abbrev pub Blocks : List Local → Type 0
 Blocks [] = Unit {0}
@@ -85,10 +86,14 @@ module _ {M : Type 1} {𝓤 : URA M} {H : Heap 𝓤} {A : Atoms 𝓤} {K : Type 
       → Seq K W (i ∷ Γ) (prop (WpFn 𝓤 H C Λ f vs Kf))
   enters t C Λ f vs Kf {i} ok k = enter t C Λ f vs Kf $ begun t C Λ (f .body) (f .locals) vs Kf i ok k
 
+  pub leaves-within : K → {C : Calls 𝓤 H} {Λ : Loops 𝓤 H} {q : Post 𝓤 H} (Kf : Val → SProp 𝓤) (ls : List Local) (bs : Blocks ls) (u : Val) (us : List Val) → Some ls
+      → post 𝓤 H q returnsᴼ ≡ atReturn 𝓤 H (envOf ls bs) Kf returnsᴼ → {i : Item 𝓤} → Step K W (i ∷ Γ) (prop (Kf u)) (i ∷ holding 𝓤 ls bs (u ∷ us) Γ) (runs C Λ (envOf ls bs) return q)
+  leaves-within t Kf [] bs u us ok e = absurd ok
+  leaves-within t Kf (local τ h ∷ ls) bs u us ok e {i} = step (λ s. returns-within t Kf e (look t 1 refl) $ freed t (local τ h ∷ ls) bs (u ∷ us) i s)
+
   pub leaves : K → (ls : List Local) (bs : Blocks ls) (u : Val) (us : List Val) → Some ls → {C : Calls 𝓤 H} {Λ : Loops 𝓤 H} {Kf : Val → SProp 𝓤} {i : Item 𝓤}
       → Step K W (i ∷ Γ) (prop (Kf u)) (i ∷ holding 𝓤 ls bs (u ∷ us) Γ) (runs C Λ (envOf ls bs) return (atRet (envOf ls bs) Kf))
-  leaves t [] bs u us ok = absurd ok
-  leaves t (local τ h ∷ ls) bs u us ok {i = i} = step (λ s. returns t (look t 1 refl) $ freed t (local τ h ∷ ls) bs (u ∷ us) i s)
+  leaves t ls bs u us ok {Kf = Kf} = leaves-within t Kf ls bs u us ok refl
 
   pub loads : K → (n : ℕ) {E : Env 𝓤 H} {j : ℕ} {q : Share} {v : Val} → nth 𝓤 H A n Γ ≡ ‵ (fat q (spotOf 𝓤 H E j .0) (spotOf 𝓤 H E j .1) zero v) → Opd K W Γ E (copy (place j [])) v
   loads t n e = load t (from t (stop t)) (look t n e)

@@ -4,6 +4,7 @@
 --     frees-held       the locals are freed, whatever they hold
 --     stays-if, leaves-if      the test of a `while`, where the value that it reads is known by an equation
 --     Kind R           a type whose values are had for nothing: a value's one machine value, that what is owned tells it, and that it is made
+--     has              what is owned of a value of such a type
 --     lent-in          what a function asks to which a slice is lent, where its other arguments are had for nothing
 --     calls-by         a call by its contract: a fact of the result and of the last values, the tokens, and what says the last values
 --     calls-value      the same of a function whose arguments are had for nothing, with no lifetime
@@ -34,7 +35,7 @@ use sound.WpLaws.{WpFn-mono}
 use Rattle.walks.proofs.Names.{_≡_, sym, ap, subst, Bool, true, false, List, [], _∷_, _++_, ℕ, _<_, length, URA, fullShare, Name, Fn, Ty, Local, Body, w64, place, copy, local, seq, assign}
 use Rattle.walks.proofs.Names.{call, Val, vunit, vint, vbool, SProp, ent, sep, emp, id⊢, via, fst∗, Fml, GName, Lft, Share, fat, Heap, Env, Calls, Loops, WpFn, Atoms, sem, fact, givenOf}
 use Rattle.walks.proofs.Names.{tables, AllOutlive, tablesOf, Given, Item, ‵, raw, _⊛_, some, later, ⋆, Seq, Step, Goal, Post, lands, nth, runs, _$_, _∵_, !, qed, move, drop, use1, split, join}
-use Rattle.walks.proofs.Names.{pick, await, done, Opd, Opds, look, stop, from, load, assigns, land, FmC, RattleType, owns, Is, shows, uint-tells, uint-lawful, RefT, usize, bool, sliceVal}
+use Rattle.walks.proofs.Names.{pick, await, done, Opd, Opds, look, stop, from, load, assigns, land, FmC, RattleType, owns, Is, shows, uint-tells, uint-lawful, RefT, owned, usize, bool, sliceVal}
 use Rattle.walks.proofs.Names.{MutSlice, Contract, Triple, Stays, Walks}
 
 -- ---- the locals
@@ -135,6 +136,10 @@ module _ {M : Type 1} {𝓤 : URA M} {H : Heap 𝓤} {A : Atoms 𝓤} (W : Given
 
   abbrev pub an-enum : (T : Enum.Declared) (L : EL.Laws T) → Plainss (variants T) → Few (Enum.shape T) → Kind 𝓤 H A (Enum.row T)
   an-enum T L pl few = record { val = EL.val T L; tells = EL.tells T L; makes = EL.makes T pl 𝓤 H A; lawful = EL.lawful T L 𝓤 H A W few }
+
+pub has : {M : Type 1} {𝓤 : URA M} {H : Heap 𝓤} {A : Atoms 𝓤} {K : Type 0} {W : Given 𝓤 H A} {Γ : List (Item 𝓤)} {g : Goal 𝓤 H} {R : RattleType}
+    → K → (k : Kind 𝓤 H A R) (x : R .Denot) → Is R x (k .val x ∷ []) → Step K W (‵ (R .own x (k .val x ∷ [])) ∷ Γ) g Γ g
+has {R = R} t k x = owned t R (Is R) (k .makes) x (k .val x ∷ [])
 
 behind : {M : Type 1} (𝓤 : URA M) {X Y Z : SProp 𝓤} → ent 𝓤 (emp 𝓤) Z → ent 𝓤 X Y → ent 𝓤 X (sep 𝓤 Y Z)
 behind 𝓤 {X} z y = via 𝓤 (sep 𝓤 X (emp 𝓤)) (via 𝓤 (sep 𝓤 (emp 𝓤) X) (emp∗ 𝓤 X) (comm∗ 𝓤 (emp 𝓤) X)) (mono∗ 𝓤 y z)

@@ -9,8 +9,9 @@ use Rattle.walks.proofs.Names.{Is, uint-vals, uint-tells, RefT, plain, owned, n
 use Rattle.walks.proofs.Names.{says, Stays, gave-slice, stay-none, goes-gave-slice, goes-none, walkOf, Walks, ends-at, walked}
 use Rattle.walks.proofs.Steps.{of-local, sets, gets, Cell, bare, full, held, blocks-of, allocs-all, frees-held, Kind, a-number, a-word, a-flag, a-unit, a-struct, an-enum, lent-in, relent, in-memory}
 use Rattle.walks.proofs.Steps.{Called, calls-by, calls-value, meets-by}
+use Rattle.walks.proofs.Again.{LentShared, lends-shared, back-shared}
 use Rattle.ring_buffer.specs.{declared.AckData.AckData, declared.RingBuffer.RingBuffer}
-use Rattle.ring_buffer.proofs.{Again.LentShared, Again.lends-shared, Again.back-shared, Record.R, Record.ringv}
+use Rattle.ring_buffer.proofs.{Record.R, Record.ringv}
 use Rattle.ring_buffer.proofs.RingBuffer as G
 use Rattle.writer.specs.Acks.{acksSays, ringAfter, leaves, consumesAcks}
 use Rattle.writer.specs.{AckSteps.due, AckSteps.batch, AckSteps.Scanned, AckSteps.Answers, AckSteps.Packable, AckSteps.Drained}

@@ -10,8 +10,9 @@ use Rattle.walks.proofs.Names.{again, loops, returns, enter, params1, pass1, pa
 use Rattle.walks.proofs.Names.{MutSlice, Room, slice-vals, mut-slice-tells, Triple, onEntry, cited, says, needs, Stays, stay-slice, stay-none, goes-slice, goes-none, walkOf, Walks, ends-at, walked}
 use Rattle.walks.proofs.Steps.{of-local, sets, gets, Cell, bare, full, held, blocks-of, allocs-all, frees-held, stays-if, leaves-if, Kind, a-word, a-unit, a-struct, lent-in, relent, in-memory}
 use Rattle.walks.proofs.Steps.{owned-slice, Called, calls-by, calls-value, Upto, Nearer, Nearer-wf, meets-by}
+use Rattle.walks.proofs.Again.{LentAgain, lends-at, back-at}
 use Rattle.ring_buffer.specs.{Ring.blank, Places.slotOf, declared.AckData.AckData}
-use Rattle.ring_buffer.proofs.{Record.R, Record.mach, Record.blank-is, Again.LentAgain, Again.lends-at, Again.back-at, Blanked.length-blanked, Blanked.blanked-none}
+use Rattle.ring_buffer.proofs.{Record.R, Record.mach, Record.blank-is, Blanked.length-blanked, Blanked.blanked-none}
 use Rattle.ring_buffer.proofs.AckData as T
 use Rattle.ring_buffer.proofs.swap_record as swap
 use Rattle.writer.specs.{AckSteps.AckFits, AckSteps.ackPut, AckSteps.Packable, AckSteps.Drained, declared.acks.AckBatch.AckBatch}
