@@ -3,28 +3,21 @@
 --     shared     (ring, &records)                packing      (ring, &mut records, used, source, destination, &mut output)
 -- A slice that is lent for good is made anew before it is handed on: its pointer and its count are read and put together. Behind the run that the walk carries, local k stands at the entry 1 + 2k.
 -- Assumes nothing.
-use mathlib.Core.Path.{_≡_, refl}
-use Prim.Native.Nat.{ℕ}
-use mathlib.Core.List.{[], _∷_, List}
-use lib.ListN.{length}
-use mir.Syntax.{Name, Fn, Ty, Local, Body, Opd, named, erased, mut, imm, w8, w32, w64, tyRef, tyInt, deref, field, place, copy, local, valueLocal, seq, assign, call, return, aggregate, addrOf}
-use mir.Val.{Val, vptr, vint}
-use types.Kit.{raw, _$_, _∵_, !, qed, learn, await, done}
-use types.Run.{init, stop, hop, fld, from, load, addr, and-then, no-more, assigns, calls, land}
-use types.Part.{agg, whole, sub, look-in}
-use denote.Memory.{pointee}
-use denote.Plain.{uint-vals, uint-tells, uint-lawful}
-use denote.Builtin.{u8, u32, usize, SliceRefOf, SliceRefMutOf}
-use denote.Ref.{RefT, now}
-use denote.Slice.{sliceTy, sliceVal, slice-vals, mut-slice-tells, shr-slice-tells, mut-slice-lawful, shr-slice-lawful}
-use denote.Signature.{plain}
+use denote.Builtin.{SliceRefOf, SliceRefMutOf}
+use denote.Ref.{now}
+use mir.Syntax.{Opd}
+use denote.Slice.{mut-slice-lawful, shr-slice-lawful}
 use denote.Struct.Declared as SD
 use denote.Struct.Laws as LL
 use denote.Enum.Declared as ED
 use denote.Enum.Enum.{Few}
 use denote.Enum.Laws as EL
-use denote.Exit.{yes}
-use Rattle.walks.proofs.Frame.{enters, leaves, loads}
+use Rattle.walks.proofs.Names.{_≡_, refl, List, [], _∷_, ℕ, length, Name, Fn, Ty, Local, Body, named, erased, mut, imm, w8, w32, w64, tyInt, tyRef, deref, field, place, copy, local, valueLocal, seq}
+use Rattle.walks.proofs.Names.{assign, call, return, aggregate, addrOf, Val, vint, vptr, raw, _$_, _∵_, !, qed, await, learn, done, init, stop, hop, fld, from, load, addr, and-then, no-more}
+use Rattle.walks.proofs.Names.{calls, agg, whole, sub, look-in, pointee, uint-vals, uint-tells, uint-lawful, RefT, plain, yes, u8, u32, usize, sliceTy, sliceVal, slice-vals, mut-slice-tells}
+use Rattle.walks.proofs.Names.{shr-slice-tells}
+use Rattle.walks.proofs.Steps.{of-local, sets, gets}
+use Rattle.walks.proofs.Frame.{enters, leaves}
 use Rattle.refusal.specs.Said.{Said}
 use Rattle.ring_buffer.specs.Ring as ring
 use Rattle.ring_buffer.specs.Ring.{Outcome}
@@ -81,12 +74,11 @@ pub bare-walk : Walked bare-others bare
 bare-walk M 𝓤 H A W C Λ fm tx ty kc kv κs a ok Kf =
     let s : Val = sliceVal (a .1 .0 .ptr) (length (a .1 .0 .now)) in
     qed W (raw (Chain 𝓤 H C kc kv tx ty (ringv (a .0)) (passed bare-others κs a) Kf) ∷ []) ∵ enters ! C Λ (bare tx ty kc kv) (passed bare-others κs a) Kf ok (λ bs.
-    assigns ! (addr ! (from ! (fld ! refl (hop ! (look-in ! 5 (sub ! 0 refl (whole !))) (stop !))))) (from ! (stop !)) (init ! 9 refl (tt, tt)) $
-    assigns ! (agg ! (and-then ! (loads ! 9 refl) (and-then ! (load ! (from ! (fld ! refl (stop !))) (look-in ! 5 (sub ! 1 refl (whole !)))) (no-more !)))) (from ! (stop !))
-    (init ! 11 refl (tt, ok .1 .0 .1)) $
-    calls ! fm (Answered 𝓤 H C kv tx ty (ringv (a .0)) Kf) (and-then ! (loads ! 3 refl) (and-then ! (loads ! 11 refl) (no-more !))) (λ w.
-    await ! tt $ learn ! (λ w-ok. land ! (from ! (stop !)) (init ! 7 refl w-ok) $
-    calls ! fm (Flat 𝓤 ty Kf) (and-then ! (loads ! 3 refl) (and-then ! (loads ! 7 refl) (no-more !))) (λ u. await ! tt $ learn ! (λ u-ok. land ! (from ! (stop !)) (init ! 1 refl u-ok) $
+    sets ! (addr ! (from ! (fld ! refl (hop ! (look-in ! 5 (sub ! 0 refl (whole !))) (stop !))))) (init ! 9 refl (tt, tt)) $
+    sets ! (agg ! (and-then ! (of-local ! 9 refl) (and-then ! (load ! (from ! (fld ! refl (stop !))) (look-in ! 5 (sub ! 1 refl (whole !)))) (no-more !)))) (init ! 11 refl (tt, ok .1 .0 .1)) $
+    calls ! fm (Answered 𝓤 H C kv tx ty (ringv (a .0)) Kf) (and-then ! (of-local ! 3 refl) (and-then ! (of-local ! 11 refl) (no-more !))) (λ w.
+    await ! tt $ learn ! (λ w-ok. gets ! (init ! 7 refl w-ok) $
+    calls ! fm (Flat 𝓤 ty Kf) (and-then ! (of-local ! 3 refl) (and-then ! (of-local ! 7 refl) (no-more !))) (λ u. await ! tt $ learn ! (λ u-ok. gets ! (init ! 1 refl u-ok) $
     leaves ! (bare tx ty kc kv .locals) bs u (ringv (a .0) ∷ s ∷ w ∷ vptr (a .1 .0 .ptr .0) (a .1 .0 .ptr .1) ∷ s ∷ []) tt $ done !)))))
 
 -- ---- (ring, &mut records, record)
@@ -114,13 +106,12 @@ pub recorded-walk : Walked recorded-others recorded
 recorded-walk M 𝓤 H A W C Λ fm tx ty kc kv κs a ok Kf =
     let s : Val = sliceVal (a .1 .0 .ptr) (length (a .1 .0 .now)) in
     qed W (raw (Chain 𝓤 H C kc kv tx ty (ringv (a .0)) (passed recorded-others κs a) Kf) ∷ []) ∵ enters ! C Λ (recorded tx ty kc kv) (passed recorded-others κs a) Kf ok (λ bs.
-    assigns ! (addr ! (from ! (fld ! refl (hop ! (look-in ! 5 (sub ! 0 refl (whole !))) (stop !))))) (from ! (stop !)) (init ! 11 refl (tt, tt)) $
-    assigns ! (agg ! (and-then ! (loads ! 11 refl) (and-then ! (load ! (from ! (fld ! refl (stop !))) (look-in ! 5 (sub ! 1 refl (whole !)))) (no-more !)))) (from ! (stop !))
-    (init ! 13 refl (tt, ok .1 .0 .1)) $
-    calls ! fm (Answered 𝓤 H C kv tx ty (ringv (a .0)) Kf) (and-then ! (loads ! 3 refl) (and-then ! (loads ! 13 refl) (and-then ! (loads ! 7 refl) (no-more !)))) (λ w.
+    sets ! (addr ! (from ! (fld ! refl (hop ! (look-in ! 5 (sub ! 0 refl (whole !))) (stop !))))) (init ! 11 refl (tt, tt)) $
+    sets ! (agg ! (and-then ! (of-local ! 11 refl) (and-then ! (load ! (from ! (fld ! refl (stop !))) (look-in ! 5 (sub ! 1 refl (whole !)))) (no-more !)))) (init ! 13 refl (tt, ok .1 .0 .1)) $
+    calls ! fm (Answered 𝓤 H C kv tx ty (ringv (a .0)) Kf) (and-then ! (of-local ! 3 refl) (and-then ! (of-local ! 13 refl) (and-then ! (of-local ! 7 refl) (no-more !)))) (λ w.
     await ! tt $ learn ! (λ w-ok.
-    land ! (from ! (stop !)) (init ! 9 refl w-ok) $
-    calls ! fm (Flat 𝓤 ty Kf) (and-then ! (loads ! 3 refl) (and-then ! (loads ! 9 refl) (no-more !))) (λ u. await ! tt $ learn ! (λ u-ok. land ! (from ! (stop !)) (init ! 1 refl u-ok) $
+    gets ! (init ! 9 refl w-ok) $
+    calls ! fm (Flat 𝓤 ty Kf) (and-then ! (of-local ! 3 refl) (and-then ! (of-local ! 9 refl) (no-more !))) (λ u. await ! tt $ learn ! (λ u-ok. gets ! (init ! 1 refl u-ok) $
     leaves ! (recorded tx ty kc kv .locals) bs u (ringv (a .0) ∷ s ∷ mach (a .1 .1 .0) ∷ w ∷ vptr (a .1 .0 .ptr .0) (a .1 .0 .ptr .1) ∷ s ∷ []) tt $ done !)))))
 
 -- ---- (ring, &records)
@@ -147,9 +138,9 @@ shared tx ty kc kv = record {
 pub shared-walk : Walked shared-others shared
 shared-walk M 𝓤 H A W C Λ fm tx ty kc kv κs a ok Kf =
     qed W (raw (Chain 𝓤 H C kc kv tx ty (ringv (a .0)) (passed shared-others κs a) Kf) ∷ []) ∵ enters ! C Λ (shared tx ty kc kv) (passed shared-others κs a) Kf ok (λ bs.
-    calls ! fm (Answered 𝓤 H C kv tx ty (ringv (a .0)) Kf) (and-then ! (loads ! 3 refl) (and-then ! (loads ! 5 refl) (no-more !))) (λ w.
-    await ! tt $ learn ! (λ w-ok. land ! (from ! (stop !)) (init ! 7 refl w-ok) $
-    calls ! fm (Flat 𝓤 ty Kf) (and-then ! (loads ! 3 refl) (and-then ! (loads ! 7 refl) (no-more !))) (λ u. await ! tt $ learn ! (λ u-ok. land ! (from ! (stop !)) (init ! 1 refl u-ok) $
+    calls ! fm (Answered 𝓤 H C kv tx ty (ringv (a .0)) Kf) (and-then ! (of-local ! 3 refl) (and-then ! (of-local ! 5 refl) (no-more !))) (λ w.
+    await ! tt $ learn ! (λ w-ok. gets ! (init ! 7 refl w-ok) $
+    calls ! fm (Flat 𝓤 ty Kf) (and-then ! (of-local ! 3 refl) (and-then ! (of-local ! 7 refl) (no-more !))) (λ u. await ! tt $ learn ! (λ u-ok. gets ! (init ! 1 refl u-ok) $
     leaves ! (shared tx ty kc kv .locals) bs u (ringv (a .0) ∷ sliceVal (a .1 .0 .ptr) (length (a .1 .0 .now)) ∷ w ∷ []) tt $ done !)))))
 
 -- ---- (ring, &mut records, used, source, destination, &mut output)
@@ -194,18 +185,17 @@ packing-walk M 𝓤 H A W C Λ fm tx ty kc kv κs a ok Kf =
     let s : Val = sliceVal (a .1 .0 .ptr) (length (a .1 .0 .now)) in
     let o : Val = sliceVal (out .ptr) (length (out .now)) in
     qed W (raw (Chain 𝓤 H C kc kv tx ty (ringv (a .0)) (passed packing-others κs a) Kf) ∷ []) ∵ enters ! C Λ (packing tx ty kc kv) (passed packing-others κs a) Kf ok (λ bs.
-    assigns ! (addr ! (from ! (fld ! refl (hop ! (look-in ! 5 (sub ! 0 refl (whole !))) (stop !))))) (from ! (stop !)) (init ! 17 refl (tt, tt)) $
-    assigns ! (agg ! (and-then ! (loads ! 17 refl) (and-then ! (load ! (from ! (fld ! refl (stop !))) (look-in ! 5 (sub ! 1 refl (whole !)))) (no-more !)))) (from ! (stop !))
-    (init ! 19 refl (tt, ok .1 .0 .1)) $
-    assigns ! (addr ! (from ! (fld ! refl (hop ! (look-in ! 13 (sub ! 0 refl (whole !))) (stop !))))) (from ! (stop !)) (init ! 21 refl (tt, tt)) $
-    assigns ! (agg ! (and-then ! (loads ! 21 refl) (and-then ! (load ! (from ! (fld ! refl (stop !))) (look-in ! 13 (sub ! 1 refl (whole !)))) (no-more !)))) (from ! (stop !))
+    sets ! (addr ! (from ! (fld ! refl (hop ! (look-in ! 5 (sub ! 0 refl (whole !))) (stop !))))) (init ! 17 refl (tt, tt)) $
+    sets ! (agg ! (and-then ! (of-local ! 17 refl) (and-then ! (load ! (from ! (fld ! refl (stop !))) (look-in ! 5 (sub ! 1 refl (whole !)))) (no-more !)))) (init ! 19 refl (tt, ok .1 .0 .1)) $
+    sets ! (addr ! (from ! (fld ! refl (hop ! (look-in ! 13 (sub ! 0 refl (whole !))) (stop !))))) (init ! 21 refl (tt, tt)) $
+    sets ! (agg ! (and-then ! (of-local ! 21 refl) (and-then ! (load ! (from ! (fld ! refl (stop !))) (look-in ! 13 (sub ! 1 refl (whole !)))) (no-more !))))
     (init ! 23 refl (tt, ok .1 .1 .1 .1 .1 .0 .1)) $
     calls ! fm (Answered 𝓤 H C kv tx ty (ringv (a .0)) Kf)
-    (and-then ! (loads ! 3 refl) (and-then ! (loads ! 19 refl) (and-then ! (loads ! 7 refl) (and-then ! (loads ! 9 refl)
-    (and-then ! (loads ! 11 refl) (and-then ! (loads ! 23 refl) (no-more !))))))) (λ w.
+    (and-then ! (of-local ! 3 refl) (and-then ! (of-local ! 19 refl) (and-then ! (of-local ! 7 refl) (and-then ! (of-local ! 9 refl)
+    (and-then ! (of-local ! 11 refl) (and-then ! (of-local ! 23 refl) (no-more !))))))) (λ w.
     await ! tt $ learn ! (λ w-ok.
-    land ! (from ! (stop !)) (init ! 15 refl w-ok) $
-    calls ! fm (Flat 𝓤 ty Kf) (and-then ! (loads ! 3 refl) (and-then ! (loads ! 15 refl) (no-more !))) (λ u. await ! tt $ learn ! (λ u-ok. land ! (from ! (stop !)) (init ! 1 refl u-ok) $
+    gets ! (init ! 15 refl w-ok) $
+    calls ! fm (Flat 𝓤 ty Kf) (and-then ! (of-local ! 3 refl) (and-then ! (of-local ! 15 refl) (no-more !))) (λ u. await ! tt $ learn ! (λ u-ok. gets ! (init ! 1 refl u-ok) $
     leaves ! (packing tx ty kc kv .locals) bs u
     (ringv (a .0) ∷ s ∷ vint w64 (a .1 .1 .0) ∷ vint w32 (a .1 .1 .1 .0) ∷ vint w32 (a .1 .1 .1 .1 .0)
     ∷ o ∷ w ∷ vptr (a .1 .0 .ptr .0) (a .1 .0 .ptr .1) ∷ s ∷ vptr (out .ptr .0) (out .ptr .1) ∷ o ∷ []) tt $ done !)))))

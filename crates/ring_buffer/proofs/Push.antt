@@ -11,7 +11,7 @@ use Rattle.walks.proofs.Frame.{enters}
 use Rattle.walks.proofs.Names.{_≡_, refl, _∙_, List, [], _∷_, ℕ, length, set, URA, Name, Fn, named, Val, SProp, ent, emp, via, fst∗, Lft, Share, ftrue, flft, Memory, Routine, Heap, WpFn, Tables}
 use Rattle.walks.proofs.Names.{Atoms, Fun, fact, givenOf, tables, tablesOf, Given, ‵, _⊛_, _$_, _∵_, !, qed, move, keep, split, join, group, fsplit, fjoin, suffices, frame, done, owns, Is, RefT}
 use Rattle.walks.proofs.Names.{plain, nothing, yes, usize, MutSlice, Room, finally, slice-vals, mut-slice-tells, Triple, onEntry, says, Stays, gave-slice, stay-none, goes-gave-slice, goes-none}
-use Rattle.walks.proofs.Names.{walkOf, Walks, ends-at, walked}
+use Rattle.walks.proofs.Names.{walkOf, ends-at}
 use Rattle.walks.proofs.Steps.{Kind, an-enum, has, Called, meets-by}
 use Rattle.ring_buffer.specs.Ring.{Outcome, leaves}
 use Rattle.ring_buffer.specs.Says.{pushedSays, ringPushed}
@@ -74,11 +74,6 @@ module _ (P : RingBuffer → ℕ → ℕ) (F : Call) (stores : (g : RingBuffer) 
           (a-ring W .lawful .typed g _ g-is .0, ((tt, (tt, (record { fits = room .0 }, tt))), (an-ack W .lawful .typed a _ a-is .0, tt)))
           (exchange X′.mir P (PushTold P F) 𝓤 H A W an-answer (λ p is. an-answer .lawful .typed p _ is .0) mem run kp ka 𝓣 known-place known-swap known-answer κ q x g a room g-is a-is Post exits)
 
-    walks : Walks 𝓤 H A push.ended stayed (WpFn 𝓤 H (𝓣 .C) (𝓣 .Λ) (shape kp ka)) (push-says F 𝓤)
-    walks = walked 𝓤 H A push.ended stayed (push-says F 𝓤) (WpFn 𝓤 H (𝓣 .C) (𝓣 .Λ) (shape kp ka))
-        (λ κs. (ring-vals, (slice-vals, (record-vals, tt)))) (λ κs. (ring-tells, (mut-slice-tells (named 0) (κs .0) R, (record-tells, tt))))
-        (λ κs qs bounds a _ are. via 𝓤 _ (fst∗ 𝓤 _ (emp 𝓤)) (walk (κs .0) (qs .0) (a .1 .0) (a .0) (a .1 .1 .0) (are .1 .0 .0 .1) (are .0) (are .1 .1 .0)))
-
   module _ {M : Type 1} (𝓤 : URA M) (H : Heap 𝓤) (𝓜 : Model 𝓤 H) (𝓖 : GhostRules 𝓤 H) (𝓡 : Running 𝓤 H 𝓜) (γ : Routines) (k kp ka : Name) where
     pub pushes : Closed 𝓤 H (tables 𝓤 H 𝓜 𝓡 γ .C) (tables 𝓤 H 𝓜 𝓡 γ .Λ) k (shape kp ka) → Triple 𝓤 (tables 𝓤 H 𝓜 𝓡 γ .C kp) (Asked usize (At-place P) 𝓤 H (𝓖 .A))
         → Triple 𝓤 (tables 𝓤 H 𝓜 𝓡 γ .C swap-def.name) (Swap 𝓤 H (𝓖 .A) (𝓜 .mem) (𝓡 .run)) → Triple 𝓤 (tables 𝓤 H 𝓜 𝓡 γ .C ka) (AskedOf R X.the-row (PushTold P F) 𝓤 H (𝓖 .A))
@@ -89,4 +84,6 @@ module _ (P : RingBuffer → ℕ → ℕ) (F : Call) (stores : (g : RingBuffer) 
         let W = givenOf 𝓤 H 𝓜 𝓖 in
         meets-by 𝓤 H 𝓜 𝓖 𝓡 γ push.ended stayed (push-says F 𝓤)
         (goes-none 𝓤 H A W 1 (λ _. G) yes (λ κs x f. refl), (goes-gave-slice 𝓤 H A W 1 0 tt (plain (λ _. R)), (goes-none 𝓤 H A W 1 (λ _. R) yes (λ κs x f. refl), tt)))
-        k (shape kp ka) closed (walks 𝓤 H A (𝓜 .mem) (𝓡 .run) W kp ka (tablesOf 𝓤 H 𝓜 (tables 𝓤 H 𝓜 𝓡 γ)) known-place known-swap known-answer)
+        k (shape kp ka) closed (λ κs. (ring-vals, (slice-vals, (record-vals, tt)))) (λ κs. (ring-tells, (mut-slice-tells (named 0) (κs .0) R, (record-tells, tt))))
+        (λ κs qs bounds a _ are. via 𝓤 _ (fst∗ 𝓤 _ (emp 𝓤)) (walk 𝓤 H A (𝓜 .mem) (𝓡 .run) W kp ka (tablesOf 𝓤 H 𝓜 (tables 𝓤 H 𝓜 𝓡 γ)) known-place known-swap known-answer
+        (κs .0) (qs .0) (a .1 .0) (a .0) (a .1 .1 .0) (are .1 .0 .0 .1) (are .0) (are .1 .1 .0)))

@@ -1,7 +1,5 @@
 -- Steps that walks share, in `Types/Kit.antt`'s calculus; they say nothing of a crate.
 --     of-local, sets, gets     a local as an operand; a local that is assigned, or gets a call's result
---     held E cs Γ      the locals E, the last one in front, each bare or with a value (bare where cs ends), and Γ behind them
---     frees-held       the locals are freed, whatever they hold
 --     stays-if, leaves-if      the test of a `while`, where the value that it reads is known by an equation
 --     Kind R           a type whose values are had for nothing: a value's one machine value, that what is owned tells it, and that it is made
 --     has              what is owned of a value of such a type
@@ -15,14 +13,13 @@ use mathlib.Core.{WellFounded.WellFounded, WellFounded.InvImage·wf}
 use Prim.Native.Nat.{_-_, _≤_}
 use lib.{WfN.Nat·lt-wfRel}
 use mir.Syntax.{Lifetime, Width, Place, Opd as Operand, Rv as RValue, cond, skip, exit}
-use base.{Logic.comm∗, Logic.mono∗, Logic.monoR, Logic.emp∗, Fml.fsep, Fml.froom, Fml.fdies}
+use base.{Logic.comm∗, Logic.mono∗, Logic.emp∗, Fml.fsep}
 use prog.{Wp.exits, Wp.spotOf, Wp.Closed, Model.Model, Routine.Env as Routines}
 use contract.{Lifetimes.Lfts, Lifetimes.Shares, Running.Running, Running.GhostRules}
-use types.Kit.{use0, pop, ⊢++, post, prop, allocs, frees, step}
-use types.Run.{Rv, Writes, stays, leaves-loop, alloc1, alloc0}
-use borrow.{Fn.Frame.Fr, Fn.Frame.rel-in, Table.Row.hd, Table.Row.tl}
-use denote.{RattleType.Denots, RattleType.Valss, Signature.typeAt, Signature.typesAt, Steps.only, Steps.heard, Steps.facts, Builtin.unit}
-use denote.Laws.{Ises, Are, Tells, Spells, valss, Makes, Makess, Lawful, owns-make}
+use types.Kit.{use0, post, prop}
+use types.Run.{Rv, Writes, stays, leaves-loop}
+use denote.{RattleType.Denots, RattleType.Valss, RattleType.flat, Signature.typeAt, Signature.typesAt, Steps.only, Steps.heard, Steps.facts, Builtin.unit}
+use denote.Laws.{Ises, Are, Tells, Tellss, Spells, valss, Makes, Makess, Lawful, owns-make}
 use denote.Plain.{UInt, uint-makes, bool-tells, bool-makes, bool-lawful, nothing-tells, nothing-makes, nothing-lawful}
 use denote.Struct.{Declared.Declared, Declared.fields, Declared.row, Struct.Plains}
 use denote.Struct.Laws as LL
@@ -32,11 +29,10 @@ use denote.Enum.Laws as EL
 use denote.Triple.{Spec.tripleOf, Call.calls-at, Entry.Args, Entry.Res, Entry.alive, Table.entered, Walked.AllGo, Walked.walk-meets}
 use denote.Triple.Clauses.{Ended, Clauses, Lasts, AtExit, atExit, lasts, closing}
 use sound.WpLaws.{WpFn-mono}
-use Rattle.walks.proofs.Names.{_≡_, sym, ap, subst, Bool, true, false, List, [], _∷_, _++_, ℕ, _<_, length, URA, fullShare, Name, Fn, Ty, Local, Body, w64, place, copy, local, seq, assign}
-use Rattle.walks.proofs.Names.{call, Val, vunit, vint, vbool, SProp, ent, sep, emp, id⊢, via, fst∗, Fml, GName, Lft, Share, fat, Heap, Env, Calls, Loops, WpFn, Atoms, sem, fact, givenOf}
-use Rattle.walks.proofs.Names.{tables, AllOutlive, tablesOf, Given, Item, ‵, raw, _⊛_, some, later, ⋆, Seq, Step, Goal, Post, lands, nth, runs, _$_, _∵_, !, qed, move, drop, use1, split, join}
-use Rattle.walks.proofs.Names.{pick, await, done, Opd, Opds, look, stop, from, load, assigns, land, FmC, RattleType, owns, Is, shows, uint-tells, uint-lawful, RefT, owned, usize, bool, sliceVal}
-use Rattle.walks.proofs.Names.{MutSlice, Contract, Triple, Stays, Walks}
+use Rattle.walks.proofs.Names.{_≡_, sym, ap, subst, Bool, true, false, List, [], _∷_, ℕ, _<_, length, URA, Name, Fn, Body, w64, place, copy, seq, assign, call, Val, vunit, vint, vbool, SProp}
+use Rattle.walks.proofs.Names.{ent, sep, emp, id⊢, via, Fml, GName, Lft, Share, fat, Heap, Env, Calls, Loops, WpFn, Atoms, sem, Fun, fact, givenOf, tables, AllOutlive, tablesOf, Given, Item, ‵}
+use Rattle.walks.proofs.Names.{raw, _⊛_, some, later, Seq, Step, Goal, Post, lands, nth, runs, _$_, move, drop, use1, split, pick, await, Opd, Opds, look, stop, from, load, assigns, land, FmC}
+use Rattle.walks.proofs.Names.{RattleType, owns, Is, shows, uint-tells, uint-lawful, RefT, owned, usize, bool, sliceVal, MutSlice, Contract, Triple, onEntry, Stays, walkOf, walked}
 
 -- ---- the locals
 
@@ -53,62 +49,13 @@ module _ {M : Type 1} {𝓤 : URA M} {H : Heap 𝓤} {A : Atoms 𝓤} {K : Type 
     pub gets : K → Writes K W Γ (spotOf 𝓤 H E i .0) (spotOf 𝓤 H E i .1) 0 v Γ′ → Step K W Γ′ (runs C Λ E rest q) Γ (lands C Λ E (place i []) v rest q)
     gets t w = land t (from t (stop t)) w
 
-pub data Cell : Type 0 where
-  bare : Cell
-  full : Val → Cell
+module _ {M : Type 1} {𝓤 : URA M} {H : Heap 𝓤} {A : Atoms 𝓤} {K : Type 0} {W : Given 𝓤 H A} {Γ : List (Item 𝓤)} {E : Env 𝓤 H} {C : Calls 𝓤 H} {Λ : Loops 𝓤 H} {q : Post 𝓤 H}
+    {c : Operand} {n : ℕ} {b : Body} {y : Bool} where
+  pub stays-if : K → y ≡ true → Opd K W Γ E c (vbool y) → Step K W Γ (runs C Λ E b q) Γ (runs C Λ E (seq (cond c skip (exit n)) b) q)
+  stays-if t e o = stays t (subst (λ (z : Bool). Opd K W Γ E c (vbool z)) e o)
 
-abbrev cellOf : Ty × ℕ → Cell → Fml
-cellOf e bare = froom (e .0) (e .1) 0
-cellOf e (full v) = fat fullShare (e .0) (e .1) 0 v
-
-abbrev pub held : {M : Type 1} {𝓤 : URA M} → List (Ty × ℕ) → List Cell → List (Item 𝓤) → List (Item 𝓤)
-held [] cs Γ = Γ
-held (e ∷ E) [] Γ = held E [] (‵ (cellOf e bare) ∷ ‵ (fdies (e .0) (e .1)) ∷ Γ)
-held (e ∷ E) (c ∷ cs) Γ = held E cs (‵ (cellOf e c) ∷ ‵ (fdies (e .0) (e .1)) ∷ Γ)
-
--- the locals of a function, in the blocks bs
-abbrev pub blocks-of : List Local → List ℕ → List (Ty × ℕ)
-blocks-of [] bs = []
-blocks-of (local τ h ∷ ls) bs = (τ, hd 0 bs) ∷ blocks-of ls (tl bs)
-
-pub allocs-all : {M : Type 1} {𝓤 : URA M} {H : Heap 𝓤} {A : Atoms 𝓤} {K : Type 0} {W : Given 𝓤 H A} {Γ : List (Item 𝓤)} → K → (ls : List Local) {Kt : Env 𝓤 H → Goal 𝓤 H}
-    → ((bs : List ℕ) → Seq K W (held (blocks-of ls bs) [] Γ) (Kt (blocks-of ls bs))) → Seq K W Γ (allocs ls Kt)
-allocs-all t [] k = alloc0 t $ k []
-allocs-all t (local τ h ∷ ls) k = alloc1 t (λ b. allocs-all t ls (λ bs. k (b ∷ bs)))
-
-module _ {M : Type 1} {𝓤 : URA M} {H : Heap 𝓤} {A : Atoms 𝓤} (W : Given 𝓤 H A) where
-  roomy : (e : Ty × ℕ) (c : Cell) → ent 𝓤 (sem 𝓤 H A (cellOf e c)) (H .room (e .0) (e .1) 0)
-  roomy e bare = id⊢ 𝓤 (H .room (e .0) (e .1) 0)
-  roomy e (full v) = W .laws .at-room (e .0) (e .1) 0 v
-
-  one-freed : (e : Ty × ℕ) (c : Cell) (F : SProp 𝓤) (Γ : List (Item 𝓤)) → ent 𝓤 (sep 𝓤 F (⋆ 𝓤 H A (‵ (cellOf e c) ∷ ‵ (fdies (e .0) (e .1)) ∷ Γ)))
-      (sep 𝓤 (sep 𝓤 (sep 𝓤 (H .room (e .0) (e .1) 0) (H .dies (e .0) (e .1))) F) (⋆ 𝓤 H A Γ))
-  one-freed e c F Γ = via 𝓤 _ (monoR 𝓤 F (monoR 𝓤 (sem 𝓤 H A (cellOf e c)) (pop 𝓤 H A (‵ (fdies (e .0) (e .1))) Γ)))
-      (qed W (raw F ∷ ‵ (cellOf e c) ∷ ‵ (fdies (e .0) (e .1)) ∷ raw (⋆ 𝓤 H A Γ) ∷ []) ∵
-      move ! (1 ∷ []) $ use1 W (‵ (froom (e .0) (e .1) 0)) (roomy e c) $ move ! (0 ∷ 2 ∷ []) $ join ! $ join ! $ done !)
-
-  all-freed : (E : Env 𝓤 H) (cs : List Cell) (Γ : List (Item 𝓤)) → ent 𝓤 (⋆ 𝓤 H A (held E cs Γ)) (sep 𝓤 (Fr 𝓤 H E) (⋆ 𝓤 H A Γ))
-  all-freed [] cs Γ = emp∗ 𝓤 (⋆ 𝓤 H A Γ)
-  all-freed (e ∷ E) [] Γ = via 𝓤 _ (all-freed E [] (‵ (cellOf e bare) ∷ ‵ (fdies (e .0) (e .1)) ∷ Γ)) (one-freed e bare (Fr 𝓤 H E) Γ)
-  all-freed (e ∷ E) (c ∷ cs) Γ = via 𝓤 _ (all-freed E cs (‵ (cellOf e c) ∷ ‵ (fdies (e .0) (e .1)) ∷ Γ)) (one-freed e c (Fr 𝓤 H E) Γ)
-
-module _ {M : Type 1} {𝓤 : URA M} {H : Heap 𝓤} {A : Atoms 𝓤} {K : Type 0} {W : Given 𝓤 H A} where
-  pub frees-held : K → (Δ : List (Item 𝓤)) (E : Env 𝓤 H) (cs : List Cell) {P : SProp 𝓤} → Step K W Δ (prop P) (Δ ++ held E cs []) (frees E (prop P))
-  frees-held t Δ E cs {P} = step (λ s.
-      let L : SProp 𝓤 = ⋆ 𝓤 H A (held E cs []) in
-      record {
-        prf = via 𝓤 (sep 𝓤 (⋆ 𝓤 H A Δ) L) (⊢++ 𝓤 H A Δ (held E cs [])) (via 𝓤 (sep 𝓤 L (⋆ 𝓤 H A Δ)) (comm∗ 𝓤 (⋆ 𝓤 H A Δ) L)
-            (via 𝓤 (sep 𝓤 (Fr 𝓤 H E) P)
-            (mono∗ 𝓤 (via 𝓤 (sep 𝓤 (Fr 𝓤 H E) (emp 𝓤)) (all-freed W E cs []) (fst∗ 𝓤 (Fr 𝓤 H E) (emp 𝓤))) (s .prf))
-            (rel-in 𝓤 H E P)));
-      })
-
-  module _ {Γ : List (Item 𝓤)} {E : Env 𝓤 H} {C : Calls 𝓤 H} {Λ : Loops 𝓤 H} {q : Post 𝓤 H} {c : Operand} {n : ℕ} {b : Body} {y : Bool} where
-    pub stays-if : K → y ≡ true → Opd K W Γ E c (vbool y) → Step K W Γ (runs C Λ E b q) Γ (runs C Λ E (seq (cond c skip (exit n)) b) q)
-    stays-if t e o = stays t (subst (λ (z : Bool). Opd K W Γ E c (vbool z)) e o)
-
-    pub leaves-if : K → y ≡ false → Opd K W Γ E c (vbool y) → Step K W Γ (prop (post 𝓤 H q (exits n))) Γ (runs C Λ E (seq (cond c skip (exit n)) b) q)
-    leaves-if t e o = leaves-loop t (subst (λ (z : Bool). Opd K W Γ E c (vbool z)) e o)
+  pub leaves-if : K → y ≡ false → Opd K W Γ E c (vbool y) → Step K W Γ (prop (post 𝓤 H q (exits n))) Γ (runs C Λ E (seq (cond c skip (exit n)) b) q)
+  leaves-if t e o = leaves-loop t (subst (λ (z : Bool). Opd K W Γ E c (vbool z)) e o)
 
 -- ---- arguments that are had for nothing
 
@@ -243,11 +190,19 @@ module _ (k : ℕ) (X : ℕ → Type 0) where
 -- ---- a function that was walked
 
 module _ {M : Type 1} (𝓤 : URA M) (H : Heap 𝓤) (𝓜 : Model 𝓤 H) (𝓖 : GhostRules 𝓤 H) (𝓡 : Running 𝓤 H 𝓜) (γ : Routines) (T : Ended) (hs : Stays (T .signature .params) (T .kept)) (c : Clauses 𝓤 T) where
-  pub meets-by : AllGo 𝓤 H (𝓖 .A) (givenOf 𝓤 H 𝓜 𝓖) (T .signature .lifetimes) (T .signature .params) (T .kept) hs → (k : Name) (f : Fn)
-      → Closed 𝓤 H (tables 𝓤 H 𝓜 𝓡 γ .C) (tables 𝓤 H 𝓜 𝓡 γ .Λ) k f → Walks 𝓤 H (𝓖 .A) T hs (WpFn 𝓤 H (tables 𝓤 H 𝓜 𝓡 γ .C) (tables 𝓤 H 𝓜 𝓡 γ .Λ) f) c
+  pub meets-by : AllGo 𝓤 H (𝓖 .A) (givenOf 𝓤 H 𝓜 𝓖) (T .signature .lifetimes) (T .signature .params) (T .kept) hs
+      → (k : Name) (f : Fn) → Closed 𝓤 H (tables 𝓤 H 𝓜 𝓡 γ .C) (tables 𝓤 H 𝓜 𝓡 γ .Λ) k f
+      → (sp : (κs : Lfts (T .signature .lifetimes)) → Spells (typesAt (T .signature .params) κs))
+      → ((κs : Lfts (T .signature .lifetimes)) → Tellss (typesAt (T .signature .params) κs) (Ises (typesAt (T .signature .params) κs)) (sp κs))
+      → ((κs : Lfts (T .signature .lifetimes)) (qs : Shares (T .signature .lifetimes)) (bounds : AllOutlive (T .signature .lifetimes) (T .signature .outlives) κs) (a : Args (T .signature) κs)
+      (g : c κs a .ghost) → let Rs : List RattleType = typesAt (T .signature .params) κs in
+      let vs : Valss Rs = valss Rs (sp κs) a in
+      Are Rs (Ises Rs) a vs → ent 𝓤 (sep 𝓤 (onEntry 𝓤 H (𝓖 .A) (T .signature) κs qs a vs) (c κs a .requires g))
+      (WpFn 𝓤 H (tables 𝓤 H 𝓜 𝓡 γ .C) (tables 𝓤 H 𝓜 𝓡 γ .Λ) f (flat Rs vs) (walkOf 𝓤 H (𝓖 .A) T hs c .post ((κs, qs, bounds, a, vs), g))))
       → Triple 𝓤 (tables 𝓤 H 𝓜 𝓡 γ .C k) (Called 𝓤 H (𝓖 .A) T c)
   unfolding tablesOf
-  meets-by goes k f closed walks =
+  meets-by goes k f closed sp tl walk =
+      let run : Fun 𝓤 = WpFn 𝓤 H (tables 𝓤 H 𝓜 𝓡 γ .C) (tables 𝓤 H 𝓜 𝓡 γ .Λ) f in
       entered 𝓤 H (Called 𝓤 H (𝓖 .A) T c) (tables 𝓤 H 𝓜 𝓡 γ .C) (tables 𝓤 H 𝓜 𝓡 γ .Λ) k f closed
-      (walk-meets 𝓤 H (𝓖 .A) T hs (givenOf 𝓤 H 𝓜 𝓖) goes c (WpFn 𝓤 H (tables 𝓤 H 𝓜 𝓡 γ .C) (tables 𝓤 H 𝓜 𝓡 γ .Λ) f)
-      (WpFn-mono 𝓤 H (givenOf 𝓤 H 𝓜 𝓖 .laws) (tablesOf 𝓤 H 𝓜 (tables 𝓤 H 𝓜 𝓡 γ)) f) walks)
+      (walk-meets 𝓤 H (𝓖 .A) T hs (givenOf 𝓤 H 𝓜 𝓖) goes c run
+      (WpFn-mono 𝓤 H (givenOf 𝓤 H 𝓜 𝓖 .laws) (tablesOf 𝓤 H 𝓜 (tables 𝓤 H 𝓜 𝓡 γ)) f) (walked 𝓤 H (𝓖 .A) T hs c run sp tl walk))

@@ -6,8 +6,7 @@ use Rattle.walks.proofs.Names.{ltb-false, URA, fullShare, named, w64, place, Va
 use Rattle.walks.proofs.Names.{afterBlock, Wp, atReturn, WpFn, Tables, afterTurn, Atoms, Fun, givenOf, tables, tablesOf, Given, Item, ‵, _⊛_, some, later, ⋆, Sq, runs, anyQ, atRet, _$_, _∵_, !, qed}
 use Rattle.walks.proofs.Names.{by, move, keep, use2, use3, split, join, group, pick, rewrite, fsplit, fjoin, suffices, frame, await, done, init, store, forget, stop, hop, fld, from, load, lit, addr}
 use Rattle.walks.proofs.Names.{of-opd, bin, and-then, no-more, assigns-last, first, blocks, exec, Below, again, loops, agg, whole, sub, look-in, lft-new, lft-end, FmC, fmOf, owns, Is, RefT, plain}
-use Rattle.walks.proofs.Names.{nothing, yes, usize, MutSlice, Room, slice-vals, mut-slice-tells, Triple, onEntry, cited, says, Stays, stay-slice, stay-none, goes-slice, goes-none, walkOf, Walks}
-use Rattle.walks.proofs.Names.{ends-at, walked}
+use Rattle.walks.proofs.Names.{nothing, yes, usize, MutSlice, Room, slice-vals, mut-slice-tells, Triple, onEntry, cited, says, Stays, stay-slice, stay-none, goes-slice, goes-none, walkOf, ends-at}
 use Rattle.walks.proofs.Steps.{of-local, sets, gets, stays-if, leaves-if, Kind, a-word, an-enum, has, relent, in-memory, owned-slice, Upto, Nearer, Nearer-wf, meets-by}
 use Rattle.ring_buffer.specs.Ring.{blank, blanked}
 use Rattle.ring_buffer.specs.Places.{slotOf, clearTurns}
@@ -150,11 +149,6 @@ module _ {M : Type 1} (𝓤 : URA M) (H : Heap 𝓤) (A : Atoms 𝓤) (mem : Mem
         sets ! (of-opd ! (lit ! tt)) (init ! 12 refl (tt, record { fits = lit< tt })) $ rewrite ! 0 (λ (ls : List AckData). ‵ (Mine ls)) (blanked-none (g .head) ys) refl $
         first ! $ blocks ! $ loops ! 𝓣 (Nearer k Known) (Nearer-wf k Known) (At bs) (λ i. by-test bs i (ltb (i .0) k) refl) (0, (zero-le, tt))))
 
-  walks : Walks 𝓤 H A self.ended stayed (WpFn 𝓤 H C Λ code.function) (self.clauses 𝓤 H A mem run)
-  walks = walked 𝓤 H A self.ended stayed (self.clauses 𝓤 H A mem run) (WpFn 𝓤 H C Λ code.function)
-      (λ κs. (ring-vals, (slice-vals, tt))) (λ κs. (ring-tells, (mut-slice-tells (named 0) (κs .0) R, tt)))
-      (λ κs qs bounds a _ are. via 𝓤 _ (fst∗ 𝓤 _ (emp 𝓤)) (walk (κs .0) (qs .0) (a .1 .0) (a .0) (are .1 .0 .0 .1) (are .0)))
-
 pub clear-spec : {M : Type 1} → self.Statement.statement M
 unfolding code.routine tablesOf
 clear-spec 𝓤 H 𝓜 𝓖 𝓡 =
@@ -162,8 +156,10 @@ clear-spec 𝓤 H 𝓜 𝓖 𝓡 =
     let W = givenOf 𝓤 H 𝓜 𝓖 in
     meets-by 𝓤 H 𝓜 𝓖 𝓡 code.env self.ended stayed (self.clauses 𝓤 H A (𝓜 .mem) (𝓡 .run))
     (goes-none 𝓤 H A W 1 (λ _. G) yes (λ κs x f. refl), (goes-slice 𝓤 H A W 1 0 tt (plain (λ _. R)), tt)) self.Key.name code.function (code.unfolded 𝓤 H 𝓜 𝓡)
-    (walks 𝓤 H A (𝓜 .mem) (𝓡 .run) W (tablesOf 𝓤 H 𝓜 (tables 𝓤 H 𝓜 𝓡 code.env))
+    (λ κs. (ring-vals, (slice-vals, tt))) (λ κs. (ring-tells, (mut-slice-tells (named 0) (κs .0) R, tt)))
+    (λ κs qs bounds a _ are. via 𝓤 _ (fst∗ 𝓤 _ (emp 𝓤)) (walk 𝓤 H A (𝓜 .mem) (𝓡 .run) W (tablesOf 𝓤 H 𝓜 (tables 𝓤 H 𝓜 𝓡 code.env))
     (cited 𝓤 H (Asked usize Turns 𝓤 H A) 𝓜 𝓡 code.env turns.Symbol.name turns.Symbol.routine code.calls-ring-buffer·clear-turns (turns.Met.met 𝓤 H 𝓜 𝓖 𝓡))
     (cited 𝓤 H (AskedOf usize usize Slotted 𝓤 H A) 𝓜 𝓡 code.env place.Symbol.name place.Symbol.routine code.calls-ring-buffer·clear-place (place.Met.met 𝓤 H 𝓜 𝓖 𝓡))
     (cited 𝓤 H (Swap 𝓤 H A (𝓜 .mem) (𝓡 .run)) 𝓜 𝓡 code.env swap.Symbol.name swap.Symbol.routine code.calls-ring-buffer·swap-record (swap.Met.met 𝓤 H 𝓜 𝓖 𝓡))
-    (cited 𝓤 H (Asked X.the-row ClearTold 𝓤 H A) 𝓜 𝓡 code.env answer.Symbol.name answer.Symbol.routine code.calls-ring-buffer·clear-answer (answer.Met.met 𝓤 H 𝓜 𝓖 𝓡)))
+    (cited 𝓤 H (Asked X.the-row ClearTold 𝓤 H A) 𝓜 𝓡 code.env answer.Symbol.name answer.Symbol.routine code.calls-ring-buffer·clear-answer (answer.Met.met 𝓤 H 𝓜 𝓖 𝓡))
+    (κs .0) (qs .0) (a .1 .0) (a .0) (are .1 .0 .0 .1) (are .0)))

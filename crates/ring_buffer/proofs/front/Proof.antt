@@ -4,7 +4,7 @@ use Rattle.walks.proofs.Frame.{enters, leaves}
 use Rattle.walks.proofs.Names.{_≡_, refl, ap, _∙_, List, [], _∷_, ℕ, getD, URA, named, w64, place, Val, vint, SProp, ent, emp, via, fst∗, Lft, Share, ftrue, flft, Memory, Routine, Heap, WpFn, Tables}
 use Rattle.walks.proofs.Names.{Atoms, Fun, givenOf, tables, tablesOf, Given, Item, ‵, _⊛_, ⋆, _$_, _∵_, !, qed, by, move, keep, split, join, group, fsplit, fjoin, suffices, frame, done, init, stop}
 use Rattle.walks.proofs.Names.{fld, from, load, of-opd, and-then, no-more, whole, sub, look-in, FmC, fmOf, owns, Is, RefT, plain, nothing, yes, usize, ShrSlice, Room, slice-vals, shr-slice-tells}
-use Rattle.walks.proofs.Names.{Triple, onEntry, cited, says, Stays, stay-none-slice, stay-none, goes-none-slice, goes-none, walkOf, Walks, ends-at, walked}
+use Rattle.walks.proofs.Names.{Triple, onEntry, cited, says, Stays, stay-none-slice, stay-none, goes-none-slice, goes-none, walkOf, ends-at}
 use Rattle.walks.proofs.Steps.{of-local, sets, gets, Kind, a-word, an-enum, has, meets-by}
 use Rattle.ring_buffer.specs.Ring.{blank, front}
 use Rattle.ring_buffer.specs.Says.{peekedSays}
@@ -66,11 +66,6 @@ module _ {M : Type 1} (𝓤 : URA M) (H : Heap 𝓤) (A : Atoms 𝓤) (mem : Mem
         leaves ! (code.function .locals) bs (an-answer .val p) (ringv g ∷ slicev x ∷ vint w64 (cells x) ∷ vint w64 i ∷ mach r ∷ []) tt $
         by ! (exits p p-is (ep (now x) refl (er ∙ ap (λ (j : ℕ). getD (now x) j blank) ei)))))))
 
-  walks : Walks 𝓤 H A self.ended stayed (WpFn 𝓤 H (𝓣 .C) (𝓣 .Λ) code.function) (self.clauses 𝓤 H A mem run)
-  walks = walked 𝓤 H A self.ended stayed (self.clauses 𝓤 H A mem run) (WpFn 𝓤 H (𝓣 .C) (𝓣 .Λ) code.function)
-      (λ κs. (ring-vals, (slice-vals, tt))) (λ κs. (ring-tells, (shr-slice-tells (named 0) (κs .0) R, tt)))
-      (λ κs qs bounds a _ are. via 𝓤 _ (fst∗ 𝓤 _ (emp 𝓤)) (walk (κs .0) (qs .0) (a .1 .0) (a .0) (are .1 .0 .0 .1) (are .0)))
-
 pub front-spec : {M : Type 1} → self.Statement.statement M
 unfolding code.routine tablesOf
 front-spec 𝓤 H 𝓜 𝓖 𝓡 =
@@ -78,7 +73,9 @@ front-spec 𝓤 H 𝓜 𝓖 𝓡 =
     let W = givenOf 𝓤 H 𝓜 𝓖 in
     meets-by 𝓤 H 𝓜 𝓖 𝓡 code.env self.ended stayed (self.clauses 𝓤 H A (𝓜 .mem) (𝓡 .run))
     (goes-none 𝓤 H A W 1 (λ _. G) yes (λ κs x f. refl), (goes-none-slice 𝓤 H A W 1 (0 ∷ []) tt (plain (λ _. R)) yes, tt)) self.Key.name code.function (code.unfolded 𝓤 H 𝓜 𝓡)
-    (walks 𝓤 H A (𝓜 .mem) (𝓡 .run) W (tablesOf 𝓤 H 𝓜 (tables 𝓤 H 𝓜 𝓡 code.env))
+    (λ κs. (ring-vals, (slice-vals, tt))) (λ κs. (ring-tells, (shr-slice-tells (named 0) (κs .0) R, tt)))
+    (λ κs qs bounds a _ are. via 𝓤 _ (fst∗ 𝓤 _ (emp 𝓤)) (walk 𝓤 H A (𝓜 .mem) (𝓡 .run) W (tablesOf 𝓤 H 𝓜 (tables 𝓤 H 𝓜 𝓡 code.env))
     (cited 𝓤 H (Asked usize (At-place popPlace) 𝓤 H A) 𝓜 𝓡 code.env place.Symbol.name place.Symbol.routine code.calls-ring-buffer·pop-place (place.Met.met 𝓤 H 𝓜 𝓖 𝓡))
     (cited 𝓤 H (Fetch 𝓤 H A (𝓜 .mem) (𝓡 .run)) 𝓜 𝓡 code.env fetch.Symbol.name fetch.Symbol.routine code.calls-ring-buffer·record-at (fetch.Met.met 𝓤 H 𝓜 𝓖 𝓡))
-    (cited 𝓤 H (AskedOf R X.the-row PeekTold 𝓤 H A) 𝓜 𝓡 code.env answer.Symbol.name answer.Symbol.routine code.calls-ring-buffer·peek-answer (answer.Met.met 𝓤 H 𝓜 𝓖 𝓡)))
+    (cited 𝓤 H (AskedOf R X.the-row PeekTold 𝓤 H A) 𝓜 𝓡 code.env answer.Symbol.name answer.Symbol.routine code.calls-ring-buffer·peek-answer (answer.Met.met 𝓤 H 𝓜 𝓖 𝓡))
+    (κs .0) (qs .0) (a .1 .0) (a .0) (are .1 .0 .0 .1) (are .0)))

@@ -4,7 +4,7 @@ use Rattle.walks.proofs.Frame.{enters}
 use Rattle.walks.proofs.Names.{refl, _∙_, List, [], _∷_, URA, named, place, Val, SProp, ent, emp, via, fst∗, Lft, Share, ftrue, flft, Memory, Routine, Heap, WpFn, Tables, Atoms, Fun, givenOf, tables}
 use Rattle.walks.proofs.Names.{tablesOf, Given, ‵, _⊛_, _$_, _∵_, !, qed, move, keep, split, join, group, fsplit, fjoin, suffices, frame, done, init, lit, and-then, no-more, agg, owns, Is, RefT}
 use Rattle.walks.proofs.Names.{plain, nothing, yes, usize, MutSlice, Room, finally, slice-vals, mut-slice-tells, Triple, onEntry, cited, says, Stays, gave-slice, stay-none, goes-gave-slice, goes-none}
-use Rattle.walks.proofs.Names.{walkOf, Walks, ends-at, walked}
+use Rattle.walks.proofs.Names.{walkOf, ends-at}
 use Rattle.walks.proofs.Steps.{sets, Kind, an-enum, has, meets-by}
 use Rattle.ring_buffer.specs.Ring.{blank}
 use Rattle.ring_buffer.specs.Places.{popPlace}
@@ -56,11 +56,6 @@ module _ {M : Type 1} (𝓤 : URA M) (H : Heap 𝓤) (A : Atoms 𝓤) (mem : Mem
         exchange X′.mir popPlace PopTold 𝓤 H A W an-answer (λ p is. an-answer .lawful .typed p _ is .0) mem run place.Symbol.name answer.Symbol.name 𝓣 known-place known-swap known-answer
         κ q x g blank room g-is blank-is Post exits bs)
 
-  walks : Walks 𝓤 H A self.ended stayed (WpFn 𝓤 H (𝓣 .C) (𝓣 .Λ) code.function) (self.clauses 𝓤 H A mem run)
-  walks = walked 𝓤 H A self.ended stayed (self.clauses 𝓤 H A mem run) (WpFn 𝓤 H (𝓣 .C) (𝓣 .Λ) code.function)
-      (λ κs. (ring-vals, (slice-vals, tt))) (λ κs. (ring-tells, (mut-slice-tells (named 0) (κs .0) R, tt)))
-      (λ κs qs bounds a _ are. via 𝓤 _ (fst∗ 𝓤 _ (emp 𝓤)) (walk (κs .0) (qs .0) (a .1 .0) (a .0) (are .1 .0 .0 .1) (are .0)))
-
 pub pop-front-spec : {M : Type 1} → self.Statement.statement M
 unfolding code.routine tablesOf
 pop-front-spec 𝓤 H 𝓜 𝓖 𝓡 =
@@ -68,7 +63,9 @@ pop-front-spec 𝓤 H 𝓜 𝓖 𝓡 =
     let W = givenOf 𝓤 H 𝓜 𝓖 in
     meets-by 𝓤 H 𝓜 𝓖 𝓡 code.env self.ended stayed (self.clauses 𝓤 H A (𝓜 .mem) (𝓡 .run))
     (goes-none 𝓤 H A W 1 (λ _. G) yes (λ κs x f. refl), (goes-gave-slice 𝓤 H A W 1 0 tt (plain (λ _. R)), tt)) self.Key.name code.function (code.unfolded 𝓤 H 𝓜 𝓡)
-    (walks 𝓤 H A (𝓜 .mem) (𝓡 .run) W (tablesOf 𝓤 H 𝓜 (tables 𝓤 H 𝓜 𝓡 code.env))
+    (λ κs. (ring-vals, (slice-vals, tt))) (λ κs. (ring-tells, (mut-slice-tells (named 0) (κs .0) R, tt)))
+    (λ κs qs bounds a _ are. via 𝓤 _ (fst∗ 𝓤 _ (emp 𝓤)) (walk 𝓤 H A (𝓜 .mem) (𝓡 .run) W (tablesOf 𝓤 H 𝓜 (tables 𝓤 H 𝓜 𝓡 code.env))
     (cited 𝓤 H (Asked usize (At-place popPlace) 𝓤 H A) 𝓜 𝓡 code.env place.Symbol.name place.Symbol.routine code.calls-ring-buffer·pop-place (place.Met.met 𝓤 H 𝓜 𝓖 𝓡))
     (cited 𝓤 H (Swap 𝓤 H A (𝓜 .mem) (𝓡 .run)) 𝓜 𝓡 code.env swap.Symbol.name swap.Symbol.routine code.calls-ring-buffer·swap-record (swap.Met.met 𝓤 H 𝓜 𝓖 𝓡))
-    (cited 𝓤 H (AskedOf R X.the-row PopTold 𝓤 H A) 𝓜 𝓡 code.env answer.Symbol.name answer.Symbol.routine code.calls-ring-buffer·pop-answer (answer.Met.met 𝓤 H 𝓜 𝓖 𝓡)))
+    (cited 𝓤 H (AskedOf R X.the-row PopTold 𝓤 H A) 𝓜 𝓡 code.env answer.Symbol.name answer.Symbol.routine code.calls-ring-buffer·pop-answer (answer.Met.met 𝓤 H 𝓜 𝓖 𝓡))
+    (κs .0) (qs .0) (a .1 .0) (a .0) (are .1 .0 .0 .1) (are .0)))

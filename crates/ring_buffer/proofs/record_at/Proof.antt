@@ -5,7 +5,7 @@ use Rattle.walks.proofs.Names.{_≡_, refl, sym, List, [], _∷_, ℕ, _<_, _^_
 use Rattle.walks.proofs.Names.{via, fst∗, GName, Lft, Share, ftrue, flft, fat, Memory, Routine, Heap, Calls, Loops, WpFn, Atoms, Fun, givenOf, tables, tablesOf, Given, ‵, _⊛_, ⋆, atRet, _$_, _∵_, ! }
 use Rattle.walks.proofs.Names.{qed, by, move, keep, split, join, group, rewrite, fsplit, fjoin, suffices, frame, done, look, look-raw, init, store, forget, stop, hop, fld, from, load, lit, of-opd}
 use Rattle.walks.proofs.Names.{bin, and-then, no-more, first, branches, skips, exec, agg, whole, sub, look-in, owns, Is, shows, uint-vals, uint-tells, RefT, plain, nothing, yes, usize, sliceVal}
-use Rattle.walks.proofs.Names.{ShrSlice, Room, slice-vals, shr-slice-tells, onEntry, says, Stays, stay-none-slice, stay-none, goes-none-slice, goes-none, walkOf, ends-at, walked}
+use Rattle.walks.proofs.Names.{ShrSlice, Room, slice-vals, shr-slice-tells, onEntry, says, Stays, stay-none-slice, stay-none, goes-none-slice, goes-none, walkOf, ends-at}
 use Rattle.walks.proofs.Steps.{of-local, sets, a-word, has, meets-by}
 use Rattle.ring_buffer.specs.Ring.{blank}
 use Rattle.ring_buffer.specs.declared.AckData.{AckData}
@@ -73,11 +73,8 @@ unfolding code.routine tablesOf
 record-at-spec 𝓤 H 𝓜 𝓖 𝓡 =
     let A = 𝓖 .A in
     let W = givenOf 𝓤 H 𝓜 𝓖 in
-    let C = tables 𝓤 H 𝓜 𝓡 code.env .C in
-    let Λ = tables 𝓤 H 𝓜 𝓡 code.env .Λ in
     meets-by 𝓤 H 𝓜 𝓖 𝓡 code.env self.ended stayed (self.clauses 𝓤 H A (𝓜 .mem) (𝓡 .run))
     (goes-none-slice 𝓤 H A W 1 (0 ∷ []) tt (plain (λ _. R)) yes, (goes-none 𝓤 H A W 1 (λ _. usize) yes (λ κs x f. refl), tt)) self.Key.name code.function (code.unfolded 𝓤 H 𝓜 𝓡)
-    (walked 𝓤 H A self.ended stayed (self.clauses 𝓤 H A (𝓜 .mem) (𝓡 .run)) (WpFn 𝓤 H C Λ code.function)
     (λ κs. (slice-vals, (uint-vals w64, tt))) (λ κs. (shr-slice-tells (named 0) (κs .0) R, (uint-tells w64, tt)))
-    (λ κs qs bounds a _ are. via 𝓤 _ (fst∗ 𝓤 _ (emp 𝓤))
-    (walk 𝓤 H A W (𝓜 .mem) (𝓡 .run) (κs .0) (qs .0) (a .0 .ptr .0) (a .0 .ptr .1) (a .0 .name) (a .0 .now) (a .1 .0) (are .0 .0 .1) (are .1 .0 .1) C Λ)))
+    (λ κs qs bounds a _ are. via 𝓤 _ (fst∗ 𝓤 _ (emp 𝓤)) (walk 𝓤 H A W (𝓜 .mem) (𝓡 .run) (κs .0) (qs .0) (a .0 .ptr .0) (a .0 .ptr .1) (a .0 .name) (a .0 .now) (a .1 .0) (are .0 .0 .1) (are .1 .0 .1)
+    (tables 𝓤 H 𝓜 𝓡 code.env .C) (tables 𝓤 H 𝓜 𝓡 code.env .Λ)))

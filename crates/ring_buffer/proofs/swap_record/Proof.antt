@@ -9,7 +9,7 @@ use Rattle.walks.proofs.Names.{_≡_, refl, sym, ap, subst, List, [], _∷_, �
 use Rattle.walks.proofs.Names.{SProp, ent, emp, via, fst∗, GName, Lft, Share, ftrue, flft, fat, Memory, Routine, Heap, Calls, Loops, WpFn, Atoms, Fun, givenOf, tables, tablesOf, Given, ‵, _⊛_, ⋆}
 use Rattle.walks.proofs.Names.{atRet, _$_, _∵_, !, qed, by, move, keep, drop, split, join, group, rewrite, fsplit, fjoin, suffices, frame, done, look, look-raw, init, store, store-raw, forget, stop}
 use Rattle.walks.proofs.Names.{hop, fld, from, load, lit, of-opd, bin, assigns, first, branches, skips, exec, whole, sub, look-in, owns, Is, shows, uint-vals, uint-tells, RefT, plain, nothing, yes}
-use Rattle.walks.proofs.Names.{usize, sliceVal, MutSlice, Room, slice-vals, mut-slice-tells, onEntry, says, Stays, stay-slice, stay-none, goes-slice, goes-none, walkOf, ends-at, walked}
+use Rattle.walks.proofs.Names.{usize, sliceVal, MutSlice, Room, slice-vals, mut-slice-tells, onEntry, says, Stays, stay-slice, stay-none, goes-slice, goes-none, walkOf, ends-at}
 use Rattle.walks.proofs.Steps.{of-local, sets, a-word, has, meets-by}
 use Rattle.ring_buffer.specs.declared.AckData.{AckData}
 use Rattle.ring_buffer.proofs.Record.{R, mach, record-vals, record-tells, offset-fits, an-ack}
@@ -82,11 +82,9 @@ unfolding code.routine tablesOf
 swap-record-spec 𝓤 H 𝓜 𝓖 𝓡 =
     let A = 𝓖 .A in
     let W = givenOf 𝓤 H 𝓜 𝓖 in
-    let C = tables 𝓤 H 𝓜 𝓡 code.env .C in
-    let Λ = tables 𝓤 H 𝓜 𝓡 code.env .Λ in
     meets-by 𝓤 H 𝓜 𝓖 𝓡 code.env self.ended stayed (self.clauses 𝓤 H A (𝓜 .mem) (𝓡 .run))
     (goes-slice 𝓤 H A W 1 0 tt (plain (λ _. R)), (goes-none 𝓤 H A W 1 (λ _. usize) yes (λ κs x f. refl), (goes-none 𝓤 H A W 1 (λ _. R) yes (λ κs x f. refl), tt)))
-    self.Key.name code.function (code.unfolded 𝓤 H 𝓜 𝓡) (walked 𝓤 H A self.ended stayed (self.clauses 𝓤 H A (𝓜 .mem) (𝓡 .run)) (WpFn 𝓤 H C Λ code.function)
+    self.Key.name code.function (code.unfolded 𝓤 H 𝓜 𝓡)
     (λ κs. (slice-vals, (uint-vals w64, (record-vals, tt)))) (λ κs. (mut-slice-tells (named 0) (κs .0) R, (uint-tells w64, (record-tells, tt))))
     (λ κs qs bounds a _ are. via 𝓤 _ (fst∗ 𝓤 _ (emp 𝓤)) (walk 𝓤 H A W (𝓜 .mem) (𝓡 .run) (κs .0) (qs .0) (a .0 .ptr .0) (a .0 .ptr .1) (a .0 .name) (a .0 .now) (a .1 .0) (a .1 .1 .0)
-    (are .0 .0 .1) (are .1 .0 .1) (are .1 .1 .0) C Λ)))
+    (are .0 .0 .1) (are .1 .0 .1) (are .1 .1 .0) (tables 𝓤 H 𝓜 𝓡 code.env .C) (tables 𝓤 H 𝓜 𝓡 code.env .Λ)))

@@ -1,19 +1,19 @@
 -- `writer::acks::drain` meets its contract: a walk of its MIR, by hand, with a loop, whose turn calls the covered `ack_slot`, lends one slice again to `swap_record` and the
 -- other to the covered `put_ack`. Assumes nothing.
 use denote.Struct.Laws as LL
-use Rattle.walks.proofs.Names.{_≡_, refl, sym, ap, _∙_, subst, Bool, true, false, List, [], _∷_, _++_, ℕ, _+_, _<_, _^_, zero-le, le-antisymm, lt-of-le-of-lt, add-one-le, add-one-dec, length, getD}
-use Rattle.walks.proofs.Names.{set, ltb, lit<, ltb-true, ltb-false, URA, fullShare, named, w64, Val, vunit, vint, vbool, SProp, ent, emp, id⊢, Fml, GName, Lft, Share, ftrue, flft, Memory, Routine}
-use Rattle.walks.proofs.Names.{Heap, Out, Env, afterSeq, afterBlock, Calls, Wp, atReturn, WpFn, Tables, afterTurn, Atoms, Fun, fact, factI, givenOf, tables, AllOutlive, tablesOf, Given, Item, ‵, raw}
-use Rattle.walks.proofs.Names.{_⊛_, some, later, ⋆, Sq, runs, anyQ, atRet, _$_, _∵_, !, qed, by, move, keep, drop, use1, use2, use3, split, join, pick, rewrite, fsplit, fjoin, feqL, feqI, suffices}
-use Rattle.walks.proofs.Names.{frame, await, done, look, init, store, forget, stop, hop, fld, from, load, lit, unit-lit, addr, of-opd, bin, and-then, no-more, assigns-last, first, blocks, exec, Below}
-use Rattle.walks.proofs.Names.{again, loops, returns, enter, params1, pass1, pass0, agg, whole, sub, look-in, lft-new, lft-end, FmC, fmOf, owns, Is, RefT, plain, owned, nothing, yes, u8, usize}
-use Rattle.walks.proofs.Names.{MutSlice, Room, slice-vals, mut-slice-tells, Triple, onEntry, cited, says, needs, Stays, stay-slice, stay-none, goes-slice, goes-none, walkOf, Walks, ends-at, walked}
-use Rattle.walks.proofs.Steps.{of-local, sets, gets, Cell, bare, full, held, blocks-of, allocs-all, frees-held, stays-if, leaves-if, Kind, a-word, a-unit, a-struct, lent-in, relent, in-memory}
-use Rattle.walks.proofs.Steps.{owned-slice, Called, calls-by, calls-value, Upto, Nearer, Nearer-wf, meets-by}
+use Rattle.walks.proofs.Names.{_≡_, refl, sym, ap, _∙_, subst, Bool, true, false, List, [], _∷_, _++_, ℕ, _+_, _<_, _^_, zero-le, le-antisymm, lt-of-le-of-lt, add-one-le, add-one-dec, length, ltb}
+use Rattle.walks.proofs.Names.{lit<, ltb-true, ltb-false, URA, fullShare, named, w64, Val, vunit, vint, SProp, ent, emp, id⊢, Fml, GName, Lft, Share, ftrue, flft, Memory, Routine, Heap, Out, Env}
+use Rattle.walks.proofs.Names.{afterSeq, afterBlock, Calls, Wp, atReturn, WpFn, Tables, afterTurn, Atoms, Fun, fact, factI, givenOf, tables, AllOutlive, tablesOf, Given, Item, ‵, raw, _⊛_, some}
+use Rattle.walks.proofs.Names.{later, ⋆, Sq, runs, anyQ, atRet, _$_, _∵_, !, qed, by, move, keep, drop, use1, use2, use3, split, join, group, pick, rewrite, fsplit, fjoin, feqL, suffices, frame}
+use Rattle.walks.proofs.Names.{await, done, init, store, forget, stop, hop, fld, from, load, lit, unit-lit, addr, of-opd, bin, and-then, no-more, assigns-last, first, blocks, exec, Below, again}
+use Rattle.walks.proofs.Names.{loops, agg, whole, sub, look-in, lft-new, lft-end, FmC, fmOf, owns, Is, RefT, plain, nothing, yes, u8, usize, MutSlice, Room, slice-vals, mut-slice-tells, Triple}
+use Rattle.walks.proofs.Names.{onEntry, cited, says, needs, Stays, stay-slice, stay-none, goes-slice, goes-none, walkOf, ends-at}
+use Rattle.walks.proofs.Frame.{Blocks, envOf, started, enters, leaves}
+use Rattle.walks.proofs.Steps.{of-local, sets, gets, stays-if, leaves-if, Kind, a-word, a-unit, a-struct, has, lent-in, relent, in-memory, owned-slice, Called, calls-by, calls-value, Upto, Nearer}
+use Rattle.walks.proofs.Steps.{Nearer-wf, meets-by}
 use Rattle.walks.proofs.Again.{LentAgain, lends-at, back-at}
 use Rattle.ring_buffer.specs.{Ring.blank, Places.slotOf, declared.AckData.AckData}
-use Rattle.ring_buffer.proofs.{Record.R, Record.mach, Record.blank-is, Blanked.length-blanked, Blanked.blanked-none}
-use Rattle.ring_buffer.proofs.AckData as T
+use Rattle.ring_buffer.proofs.{Record.R, Record.mach, Record.blank-is, Record.an-ack, Calls.swaps, Blanked.length-blanked, Blanked.blanked-none}
 use Rattle.ring_buffer.proofs.swap_record as swap
 use Rattle.writer.specs.{AckSteps.AckFits, AckSteps.ackPut, AckSteps.Packable, AckSteps.Drained, declared.acks.AckBatch.AckBatch}
 use Rattle.writer.proofs.AckTurns.{cleared, filled, written-none, next-cleared, next-fits, next-written}
@@ -50,9 +50,6 @@ module _ {M : Type 1} (𝓤 : URA M) (H : Heap 𝓤) (A : Atoms 𝓤) (W : Given
   k-fits : k < 2 ^ 64
   k-fits = LL.owed P.the-type P.Laws.the-laws p _ p-is .1 .0 .1
 
-  abbrev an-ack : Kind 𝓤 H A R
-  an-ack = a-struct W T.the-type T.Laws.the-laws T.Laws.the-plain
-
   abbrev a-batch : Kind 𝓤 H A P.the-row
   a-batch = a-struct W P.the-type P.Laws.the-laws P.Laws.the-plain
 
@@ -76,8 +73,8 @@ module _ {M : Type 1} (𝓤 : URA M) (H : Heap 𝓤) (A : Atoms 𝓤) (W : Given
   exits zs ws len₁ len₂ e =
       qed W (Own zs ws) ∵ suffices ! _ (ends-at 𝓤 H A self.ended stayed (self.clauses 𝓤 H A mem run) W passed vunit tt (zs, (tt, (ws, tt))) (len₁, (tt, (len₂, tt)))) $ says ! e $
       nothing ! $ move ! (4 ∷ 0 ∷ []) $ join ! $ move ! (2 ∷ 0 ∷ []) $ join ! $ frame ! $
-      nothing ! $ move ! (2 ∷ 0 ∷ []) $ fjoin ! $ owned ! P.the-row (Is P.the-row) (a-batch .makes) p _ p-is $ fjoin ! $ move ! (1 ∷ 0 ∷ []) $ fjoin ! $
-      feqI ! (List Val) (vunit ∷ []) (vunit ∷ []) refl $ move ! (1 ∷ 0 ∷ []) $ done !
+      nothing ! $ move ! (2 ∷ 0 ∷ []) $ fjoin ! $ has ! a-batch p p-is $ fjoin ! $ move ! (1 ∷ 0 ∷ []) $ fjoin ! $
+      has ! (a-unit W) tt refl $ move ! (1 ∷ 0 ∷ []) $ done !
 
   -- the two lists after i turns
   abbrev cl : ℕ → List AckData
@@ -90,27 +87,24 @@ module _ {M : Type 1} (𝓤 : URA M) (H : Heap 𝓤) (A : Atoms 𝓤) (W : Given
   abbrev Long : ℕ → Type 0
   Long i = length (wr i) ≡ length os
 
-  abbrev to-swap : ℕ → GName → List AckData → ℕ → Called 𝓤 H A swap.ended (swap.clauses 𝓤 H A mem run) .Ghost
-  to-swap ν δ zs j = (((ν ∷ [], tt), (fullShare, tt), tt, (relent x₁ δ zs, (j, (blank, tt))), (in-memory x₁ ∷ [], (vint w64 j ∷ [], (mach blank ∷ [], tt)))), tt)
-
   abbrev to-put : ℕ → GName → List ℕ → ℕ → AckData → Called 𝓤 H A put.ended (put.clauses 𝓤 H A mem run) .Ghost
   to-put ν δ ws i r =
-      (((ν ∷ [], tt), (fullShare, tt), tt, (relent x₂ δ ws, (p, (i, (r, tt)))), (in-memory x₂ ∷ [], (a-batch .val p ∷ [], (vint w64 i ∷ [], (an-ack .val r ∷ [], tt))))), tt)
+      (((ν ∷ [], tt), (fullShare, tt), tt, (relent x₂ δ ws, (p, (i, (r, tt)))), (in-memory x₂ ∷ [], (a-batch .val p ∷ [], (vint w64 i ∷ [], (mach r ∷ [], tt))))), tt)
 
   module _ (𝓣 : Tables 𝓤 H) (knows : Knows 𝓤 H A mem run (𝓣 .C)) where
     open Tables 𝓣 using (C, Λ)
 
-    module _ (bs : List ℕ) where
+    module _ (bs : Blocks (code.function .locals)) where
       abbrev En : Env 𝓤 H
-      En = blocks-of (code.function .locals) bs
+      En = envOf (code.function .locals) bs
 
-      -- the locals at a turn: the result, and those behind i
-      abbrev cells : Cell → ℕ → List Cell → List Cell
-      cells r i cs = r ∷ full (in-memory x₁) ∷ full (a-batch .val p) ∷ full (in-memory x₂) ∷ full (vint w64 (length ys)) ∷ full (vint w64 k) ∷ full (vint w64 i) ∷ cs
+      -- the locals behind the result at a turn
+      abbrev vals : ℕ → List Val
+      vals i = in-memory x₁ ∷ a-batch .val p ∷ in-memory x₂ ∷ vint w64 (length ys) ∷ vint w64 k ∷ vint w64 i ∷ []
 
-      -- the loop's invariant
+      -- the loop's invariant: local j stands at the entry 4 + 2j
       abbrev At : Upto k Long → List (Item 𝓤)
-      At i = Own (cl (i .0)) (wr (i .0)) ++ held En (cells bare (i .0) []) []
+      At i = Own (cl (i .0)) (wr (i .0)) ++ started 𝓤 (code.function .locals) bs (vals (i .0)) []
 
       abbrev Turned : Upto k Long → Out → SProp 𝓤
       Turned i = afterTurn 𝓤 H (Below 𝓤 H A (Nearer k Long) At i) (afterBlock 𝓤 H (afterSeq 𝓤 H (Wp 𝓤 H C Λ En t-5 (atReturn 𝓤 H En Post)) (atReturn 𝓤 H En Post)))
@@ -123,89 +117,71 @@ module _ {M : Type 1} (𝓤 : URA M) (H : Heap 𝓤) (A : Atoms 𝓤) (W : Given
           let more-fits : i .0 + 1 < 2 ^ 64 = lt-of-le-of-lt (add-one-le lt) k-fits in
           let fm : FmC 𝓤 H (W .laws) C = fmOf 𝓤 H (W .laws) 𝓣 in
           let long : length (cl (i .0)) ≡ length ys = length-blanked (p .ring .head) (i .0) ys in
-          sets ! (bin ! (of-local ! 22 refl) (of-local ! 24 refl) tt) (init ! 16 refl (tt, tt)) $ stays-if ! less (of-local ! 16 refl) $
+          sets ! (bin ! (of-local ! 16 refl) (of-local ! 14 refl) tt) (init ! 22 refl (tt, tt)) $ stays-if ! less (of-local ! 22 refl) $
           calls-value ! fm slot.ended (slot.clauses 𝓤 H A mem run) (knows .0) tt tt tt (a-batch, (a-word W, (a-word W, tt))) (p, (length ys, (i .0, tt))) tt (a-word W)
           (p-is, ((refl, room₁ .0), ((refl, i-fits), tt))) (id⊢ 𝓤 _) (id⊢ 𝓤 _) (λ j. j ≡ slotOf (p .ring .head) (length ys) (i .0)) (λ j e. id⊢ 𝓤 _)
-          (and-then ! (of-local ! 31 refl) (and-then ! (of-local ! 27 refl) (and-then ! (of-local ! 23 refl) (no-more !)))) (λ j sj is-j.
-          gets ! (init ! 20 refl (a-word W .lawful .typed j _ is-j .0)) $
+          (and-then ! (of-local ! 9 refl) (and-then ! (of-local ! 13 refl) (and-then ! (of-local ! 17 refl) (no-more !)))) (λ j sj is-j.
+          gets ! (init ! 18 refl (a-word W .lawful .typed j _ is-j .0)) $
           -- records is lent again to `swap_record`, and comes back
-          sets ! (addr ! (from ! (fld ! refl (hop ! (look-in ! 32 (sub ! 0 refl (whole !))) (stop !))))) (init ! 14 refl (tt, tt)) $
-          sets ! (agg ! (and-then ! (of-local ! 14 refl) (and-then ! (load ! (from ! (fld ! refl (stop !))) (look-in ! 32 (sub ! 1 refl (whole !)))) (no-more !))))
-          (init ! 12 refl (tt, (tt, (record { fits = room₁ .0 }, tt)))) $
-          sets ! (agg ! (and-then ! (lit ! tt) (and-then ! (lit ! tt) (no-more !)))) (init ! 10 refl (an-ack .lawful .typed blank _ blank-is .0)) $
+          sets ! (addr ! (from ! (fld ! refl (hop ! (look-in ! 6 (sub ! 0 refl (whole !))) (stop !))))) (init ! 24 refl (tt, tt)) $
+          sets ! (agg ! (and-then ! (of-local ! 24 refl) (and-then ! (load ! (from ! (fld ! refl (stop !))) (look-in ! 6 (sub ! 1 refl (whole !)))) (no-more !))))
+          (init ! 26 refl (tt, (tt, (record { fits = room₁ .0 }, tt)))) $
+          sets ! (agg ! (and-then ! (lit ! tt) (and-then ! (lit ! tt) (no-more !)))) (init ! 28 refl (an-ack W .lawful .typed blank _ blank-is .0)) $
           lft-new ! tt (λ ν. move ! (1 ∷ 2 ∷ []) $
           use2 W (later (some (λ (δ : GName). ‵ (owned-slice R (named 0) (ν ∷ []) x₁ δ (cl (i .0))) ⊛ ‵ (LentAgain R κ₁ (ν ∷ []) q₁ (x₁ .name) (x₁ .ptr .0) (x₁ .ptr .1) δ (cl (i .0))))))
           (lends-at R κ₁ (ν ∷ []) q₁ (x₁ .name) (x₁ .ptr .0) (x₁ .ptr .1) 𝓤 H A W (named 0) (named 0) (cl (i .0)) (length ys) long) $ await ! tt $ pick ! (λ δ. split ! $ move ! (2 ∷ 0 ∷ []) $
-          use2 W (raw (Called 𝓤 H A swap.ended (swap.clauses 𝓤 H A mem run) .pre (to-swap ν δ (cl (i .0)) j)))
-          (lent-in 𝓤 H A (usize ∷ R ∷ []) (a-word W, (an-ack, tt)) (j, (blank, tt)) (is-j, (blank-is, tt)) (A .lft (ν ∷ []) fullShare) (emp 𝓤)
-          (owned-slice R (named 0) (ν ∷ []) x₁ δ (cl (i .0))) (id⊢ 𝓤 (emp 𝓤))) $
-          calls-by ! fm swap.ended (swap.clauses 𝓤 H A mem run) (knows .1) (to-swap ν δ (cl (i .0)) j) an-ack (λ r zs. (r ≡ getD (cl (i .0)) j blank) × (zs .0 ≡ set (cl (i .0)) j blank))
-          (λ r zs. id⊢ 𝓤 _) (and-then ! (of-local ! 12 refl) (and-then ! (of-local ! 20 refl) (and-then ! (of-local ! 10 refl) (no-more !)))) (λ r zs er is-r.
-          let zs-is : zs .0 ≡ cl (i .0 + 1) = er .1 ∙ next-cleared p ys os packable (i .0) j lt sj in
-          -- [the call's token and true; the last list; what is kept; out's two; _15; …]
-          use1 W (‵ (flft (ν ∷ []) fullShare) ⊛ ‵ ftrue) (id⊢ 𝓤 _) $ split ! $ lft-end ! tt $ move ! (2 ∷ []) $ fsplit ! $ fsplit ! $ move ! (1 ∷ []) $ feqL ! (λ len. move ! (2 ∷ 4 ∷ 0 ∷ []) $
-          use3 W (later (‵ (Mine₁ (zs .0)) ⊛ ‵ (flft κ₁ q₁)))
-          (back-at R κ₁ (ν ∷ []) q₁ (x₁ .name) (x₁ .ptr .0) (x₁ .ptr .1) 𝓤 H A W (named 0) (named 0) (cl (i .0)) (length ys) long δ (zs .0) room₁ len) $ await ! tt $ split ! $
-          rewrite ! 0 (λ (ls : List AckData). ‵ (Mine₁ ls)) zs-is refl $ move ! (2 ∷ []) $ drop ! $ move ! (2 ∷ []) $ drop ! $
-          gets ! (init ! 18 refl (an-ack .lawful .typed r _ is-r .0)) $
+          swaps ! fm mem run (knows .1) (ν ∷ []) fullShare (relent x₁ δ (cl (i .0))) (length ys) j blank is-j blank-is
+          (and-then ! (of-local ! 26 refl) (and-then ! (of-local ! 18 refl) (and-then ! (of-local ! 28 refl) (no-more !)))) (λ r zs is-r len er.
+          let zs-is : zs ≡ cl (i .0 + 1) = er .1 ∙ next-cleared p ys os packable (i .0) j lt sj in
+          -- [the call's token; the last list; what is kept; out's two; room for _0; …]
+          lft-end ! tt $ move ! (0 ∷ 2 ∷ 1 ∷ []) $ use3 W (later (‵ (Mine₁ zs) ⊛ ‵ (flft κ₁ q₁)))
+          (back-at R κ₁ (ν ∷ []) q₁ (x₁ .name) (x₁ .ptr .0) (x₁ .ptr .1) 𝓤 H A W (named 0) (named 0) (cl (i .0)) (length ys) long δ zs room₁ len) $ await ! tt $ split ! $
+          rewrite ! 0 (λ (ls : List AckData). ‵ (Mine₁ ls)) zs-is refl $
+          gets ! (init ! 20 refl (an-ack W .lawful .typed r _ is-r .0)) $
           -- out is lent again to `put_ack`, and comes back
-          sets ! (addr ! (from ! (fld ! refl (hop ! (look-in ! 28 (sub ! 0 refl (whole !))) (stop !))))) (init ! 6 refl (tt, tt)) $
-          sets ! (agg ! (and-then ! (of-local ! 6 refl) (and-then ! (load ! (from ! (fld ! refl (stop !))) (look-in ! 28 (sub ! 1 refl (whole !)))) (no-more !))))
-          (init ! 4 refl (tt, (tt, (record { fits = room₂ .0 }, tt)))) $
+          sets ! (addr ! (from ! (fld ! refl (hop ! (look-in ! 10 (sub ! 0 refl (whole !))) (stop !))))) (init ! 32 refl (tt, tt)) $
+          sets ! (agg ! (and-then ! (of-local ! 32 refl) (and-then ! (load ! (from ! (fld ! refl (stop !))) (look-in ! 10 (sub ! 1 refl (whole !)))) (no-more !))))
+          (init ! 34 refl (tt, (tt, (record { fits = room₂ .0 }, tt)))) $
           lft-new ! tt (λ μ. move ! (3 ∷ 4 ∷ []) $
           use2 W (later (some (λ (ε : GName). ‵ (owned-slice u8 (named 0) (μ ∷ []) x₂ ε (wr (i .0))) ⊛ ‵ (LentAgain u8 κ₂ (μ ∷ []) q₂ (x₂ .name) (x₂ .ptr .0) (x₂ .ptr .1) ε (wr (i .0))))))
           (lends-at u8 κ₂ (μ ∷ []) q₂ (x₂ .name) (x₂ .ptr .0) (x₂ .ptr .1) 𝓤 H A W (named 1) (named 0) (wr (i .0)) (length os) (i .1 .1)) $ await ! tt $ pick ! (λ ε. split ! $ move ! (2 ∷ 0 ∷ []) $
           use2 W (raw (Called 𝓤 H A put.ended (put.clauses 𝓤 H A mem run) .pre (to-put μ ε (wr (i .0)) (i .0) r)))
-          (lent-in 𝓤 H A (P.the-row ∷ usize ∷ R ∷ []) (a-batch, (a-word W, (an-ack, tt))) (p, (i .0, (r, tt))) (p-is, ((refl, i-fits), (is-r, tt)))
+          (lent-in 𝓤 H A (P.the-row ∷ usize ∷ R ∷ []) (a-batch, (a-word W, (an-ack W, tt))) (p, (i .0, (r, tt))) (p-is, ((refl, i-fits), (is-r, tt)))
           (A .lft (μ ∷ []) fullShare) (fact 𝓤 (AckFits p (i .0) r (wr (i .0)))) (owned-slice u8 (named 0) (μ ∷ []) x₂ ε (wr (i .0)))
           (factI 𝓤 (AckFits p (i .0) r (wr (i .0))) (emp 𝓤) (next-fits p ys os packable (i .0) j lt sj r (er .0) (i .1 .1)))) $
           calls-by ! fm put.ended (put.clauses 𝓤 H A mem run) (knows .2) (to-put μ ε (wr (i .0)) (i .0) r) (a-unit W) (λ z ws. ws .0 ≡ ackPut p (i .0) r (wr (i .0))) (λ z ws. id⊢ 𝓤 _)
-          (and-then ! (of-local ! 4 refl) (and-then ! (of-local ! 30 refl) (and-then ! (of-local ! 22 refl) (and-then ! (of-local ! 18 refl) (no-more !))))) (λ z ws ew is-z.
+          (and-then ! (of-local ! 34 refl) (and-then ! (of-local ! 8 refl) (and-then ! (of-local ! 16 refl) (and-then ! (of-local ! 20 refl) (no-more !))))) (λ z ws ew is-z.
           let ws-is : ws .0 ≡ wr (i .0 + 1) = ew ∙ next-written p ys os packable (i .0) j lt sj r (er .0) in
           use1 W (‵ (flft (μ ∷ []) fullShare) ⊛ ‵ ftrue) (id⊢ 𝓤 _) $ split ! $ lft-end ! tt $ move ! (2 ∷ []) $ fsplit ! $ fsplit ! $ move ! (1 ∷ []) $ feqL ! (λ len₂. move ! (2 ∷ 4 ∷ 0 ∷ []) $
           use3 W (later (‵ (Mine₂ (ws .0)) ⊛ ‵ (flft κ₂ q₂)))
           (back-at u8 κ₂ (μ ∷ []) q₂ (x₂ .name) (x₂ .ptr .0) (x₂ .ptr .1) 𝓤 H A W (named 1) (named 0) (wr (i .0)) (length os) (i .1 .1) ε (ws .0) room₂ len₂) $ await ! tt $ split ! $
           rewrite ! 0 (λ (ls : List ℕ). ‵ (Mine₂ ls)) ws-is refl $ move ! (2 ∷ []) $ drop ! $ move ! (2 ∷ []) $ drop ! $ move ! (2 ∷ 3 ∷ []) $
           -- [records' two; out's two; _15; …]
-          gets ! (init ! 8 refl (tt, tt)) $
-          assigns-last ! (bin ! (of-local ! 22 refl) (lit ! tt) (record { fits = more-fits })) (from ! (stop !)) (store ! 22 refl (tt, record { fits = more-fits })) $
-          forget ! 4 refl $ forget ! 6 refl $ forget ! 8 refl $ forget ! 10 refl $ forget ! 12 refl $ forget ! 14 refl $ forget ! 16 refl $ forget ! 18 refl $ forget ! 20 refl $
-          again ! (Nearer k Long) At i (i .0 + 1, (add-one-le lt, subst (λ (ls : List ℕ). length ls ≡ length os) ws-is (len₂ ∙ i .1 .1))) (add-one-dec k (i .0) lt))))))))))
+          gets ! (init ! 30 refl (tt, tt)) $
+          assigns-last ! (bin ! (of-local ! 16 refl) (lit ! tt) (record { fits = more-fits })) (from ! (stop !)) (store ! 16 refl (tt, record { fits = more-fits })) $
+          forget ! 34 refl $ forget ! 32 refl $ forget ! 30 refl $ forget ! 28 refl $ forget ! 26 refl $ forget ! 24 refl $ forget ! 22 refl $ forget ! 20 refl $ forget ! 18 refl $
+          again ! (Nearer k Long) At i (i .0 + 1, (add-one-le lt, subst (λ (ls : List ℕ). length ls ≡ length os) ws-is (len₂ ∙ i .1 .1))) (add-one-dec k (i .0) lt)))))))))
       by-test i false over =
           let same = le-antisymm (i .1 .0) (ltb-false (i .0) k over) in
-          sets ! (bin ! (of-local ! 22 refl) (of-local ! 24 refl) tt) (init ! 16 refl (tt, tt)) $ leaves-if ! over (of-local ! 16 refl) $ exec ! C Λ En t-5 (atRet En Post) $
-          sets ! (of-opd ! (unit-lit !)) (init ! 34 refl (tt, tt)) $ returns ! (look ! 34 refl) $
-          frees-held ! (Own (cl (i .0)) (wr (i .0))) En (cells (full vunit) (i .0) (bare ∷ bare ∷ full (vbool (ltb (i .0) k)) ∷ [])) $
+          sets ! (bin ! (of-local ! 16 refl) (of-local ! 14 refl) tt) (init ! 22 refl (tt, tt)) $ leaves-if ! over (of-local ! 22 refl) $ exec ! C Λ En t-5 (atRet En Post) $
+          sets ! (of-opd ! (unit-lit !)) (init ! 4 refl (tt, tt)) $ forget ! 22 refl $ group ! 4 $
+          leaves ! (code.function .locals) bs vunit (vals (i .0)) tt $
           by ! (exits (cl (i .0)) (wr (i .0)) (length-blanked (p .ring .head) (i .0) ys) (i .1 .1) (ap cl same, ap wr same))
-
-      -- the body, once the arguments are passed
-      opens : Sq W (Own ys os ++ held En (bare ∷ full (in-memory x₁) ∷ full (a-batch .val p) ∷ full (in-memory x₂) ∷ []) []) (runs C Λ En (code.function .body) (atRet En Post))
-      opens =
-          let none : os ≡ wr 0 = written-none (p .ring) ys (p .used) (p .«src_conn_id») (p .«dst_conn_id») os in
-          sets ! (of-opd ! (load ! (from ! (fld ! refl (stop !))) (look-in ! 32 (sub ! 1 refl (whole !))))) (init ! 26 refl (tt, record { fits = room₁ .0 })) $
-          sets ! (of-opd ! (load ! (from ! (fld ! refl (stop !))) (look-in ! 30 (sub ! 1 refl (whole !))))) (init ! 24 refl (tt, record { fits = k-fits })) $
-          sets ! (of-opd ! (lit ! tt)) (init ! 22 refl (tt, record { fits = lit< tt })) $
-          rewrite ! 0 (λ (ls : List AckData). ‵ (Mine₁ ls)) (blanked-none (p .ring .head) ys) refl $
-          rewrite ! 2 (λ (ls : List ℕ). ‵ (Mine₂ ls)) none refl $
-          first ! $ blocks ! $ loops ! 𝓣 (Nearer k Long) (Nearer-wf k Long) At (λ i. by-test i (ltb (i .0) k) refl) (0, (zero-le, sym (ap length none)))
 
     walk : ent 𝓤 (onEntry 𝓤 H A self.signature (κ₁, (κ₂, tt)) (q₁, (q₂, tt)) (passed .0 .3) (passed .0 .4)) (WpFn 𝓤 H C Λ code.function (in-memory x₁ ∷ a-batch .val p ∷ in-memory x₂ ∷ []) Post)
     walk =
         qed W ((‵ (flft κ₁ q₁) ⊛ ‵ (flft κ₂ q₂) ⊛ ‵ ftrue) ∷ ‵ (owns (MutSlice (named 0) κ₁ R ∷ P.the-row ∷ MutSlice (named 1) κ₂ u8 ∷ []) (passed .0 .3) (passed .0 .4)) ∷ []) ∵
-        split ! $ move ! (1 ∷ []) $ split ! $ move ! (3 ∷ []) $ fsplit ! $ move ! (1 ∷ []) $ fsplit ! $ move ! (1 ∷ []) $ fsplit ! $ keep ! (3 ∷ 6 ∷ 0 ∷ 4 ∷ []) $
-        enter ! C Λ code.function (in-memory x₁ ∷ a-batch .val p ∷ in-memory x₂ ∷ []) _ $
-        allocs-all ! (code.function .locals) (λ bs. params1 ! $ pass1 ! (init ! 28 refl (tt, (tt, (record { fits = room₁ .0 }, tt)))) $
-        pass1 ! (init ! 26 refl (a-batch .lawful .typed p _ p-is .0)) $ pass1 ! (init ! 24 refl (tt, (tt, (record { fits = room₂ .0 }, tt)))) $ pass0 ! $ move ! (32 ∷ 33 ∷ 34 ∷ 35 ∷ []) $
-        opens bs)
-
-module _ {M : Type 1} (𝓤 : URA M) (H : Heap 𝓤) (A : Atoms 𝓤) (W : Given 𝓤 H A) (mem : Memory → SProp 𝓤) (run : Routine → Fun 𝓤) (𝓣 : Tables 𝓤 H) where
-  walks : Knows 𝓤 H A mem run (𝓣 .C) → Walks 𝓤 H A self.ended stayed (WpFn 𝓤 H (𝓣 .C) (𝓣 .Λ) code.function) (self.clauses 𝓤 H A mem run)
-  walks knows = walked 𝓤 H A self.ended stayed (self.clauses 𝓤 H A mem run) (WpFn 𝓤 H (𝓣 .C) (𝓣 .Λ) code.function)
-      (λ κs. (slice-vals, (LL.vals P.the-type P.Laws.the-laws, (slice-vals, tt))))
-      (λ κs. (mut-slice-tells (named 0) (κs .0) R, (LL.tells P.the-type P.Laws.the-laws, (mut-slice-tells (named 1) (κs .1 .0) u8, tt))))
-      (λ κs qs bounds a _ are. needs 𝓤 (Packable (a .1 .0) (a .0 .now) (a .1 .1 .0 .now)) _ (λ packable. walk 𝓤 H A W mem run (κs .0) (κs .1 .0) bounds (qs .0) (qs .1 .0)
-      (a .0) (a .1 .0) (a .1 .1 .0)
-      (are .0 .0 .1) (are .1 .0) (are .1 .1 .0 .0 .1) packable 𝓣 knows))
+        split ! $ move ! (1 ∷ []) $ split ! $ move ! (3 ∷ []) $ fsplit ! $ move ! (1 ∷ []) $ fsplit ! $ move ! (1 ∷ []) $ fsplit ! $ keep ! (3 ∷ 6 ∷ 0 ∷ 4 ∷ []) $ group ! 4 $
+        enters ! C Λ code.function (in-memory x₁ ∷ a-batch .val p ∷ in-memory x₂ ∷ []) Post
+        ((tt, (tt, (record { fits = room₁ .0 }, tt))), (a-batch .lawful .typed p _ p-is .0, ((tt, (tt, (record { fits = room₂ .0 }, tt))), tt))) (λ bs.
+        split ! $ move ! (1 ∷ []) $ split ! $ move ! (1 ∷ []) $ split ! $ move ! (3 ∷ 2 ∷ 0 ∷ 1 ∷ []) $
+        let none : os ≡ wr 0 = written-none (p .ring) ys (p .used) (p .«src_conn_id») (p .«dst_conn_id») os in
+        sets ! (of-opd ! (load ! (from ! (fld ! refl (stop !))) (look-in ! 6 (sub ! 1 refl (whole !))))) (init ! 12 refl (tt, record { fits = room₁ .0 })) $
+        sets ! (of-opd ! (load ! (from ! (fld ! refl (stop !))) (look-in ! 8 (sub ! 1 refl (whole !))))) (init ! 14 refl (tt, record { fits = k-fits })) $
+        sets ! (of-opd ! (lit ! tt)) (init ! 16 refl (tt, record { fits = lit< tt })) $
+        rewrite ! 0 (λ (ls : List AckData). ‵ (Mine₁ ls)) (blanked-none (p .ring .head) ys) refl $
+        rewrite ! 2 (λ (ls : List ℕ). ‵ (Mine₂ ls)) none refl $
+        first ! $ blocks ! $ loops ! 𝓣 (Nearer k Long) (Nearer-wf k Long) (At bs) (λ i. by-test bs i (ltb (i .0) k) refl) (0, (zero-le, sym (ap length none))))
 
 pub drain-spec : {M : Type 1} → self.Statement.statement M
 unfolding code.routine tablesOf
@@ -216,8 +192,13 @@ drain-spec 𝓤 H 𝓜 𝓖 𝓡 =
     let run = 𝓡 .run in
     meets-by 𝓤 H 𝓜 𝓖 𝓡 code.env self.ended stayed (self.clauses 𝓤 H A mem run)
     (goes-slice 𝓤 H A W 2 0 tt (plain (λ _. R)), (goes-none 𝓤 H A W 2 (λ _. P.the-row) yes (λ κs x f. refl), (goes-slice 𝓤 H A W 2 1 tt (plain (λ _. u8)), tt)))
-    self.Key.name code.function (code.unfolded 𝓤 H 𝓜 𝓡) (walks 𝓤 H A W mem run (tablesOf 𝓤 H 𝓜 (tables 𝓤 H 𝓜 𝓡 code.env)) (
+    self.Key.name code.function (code.unfolded 𝓤 H 𝓜 𝓡)
+    (λ κs. (slice-vals, (LL.vals P.the-type P.Laws.the-laws, (slice-vals, tt))))
+    (λ κs. (mut-slice-tells (named 0) (κs .0) R, (LL.tells P.the-type P.Laws.the-laws, (mut-slice-tells (named 1) (κs .1 .0) u8, tt))))
+    (λ κs qs bounds a _ are. needs 𝓤 (Packable (a .1 .0) (a .0 .now) (a .1 .1 .0 .now)) _ (λ packable. walk 𝓤 H A W mem run (κs .0) (κs .1 .0) bounds (qs .0) (qs .1 .0)
+    (a .0) (a .1 .0) (a .1 .1 .0)
+    (are .0 .0 .1) (are .1 .0) (are .1 .1 .0 .0 .1) packable (tablesOf 𝓤 H 𝓜 (tables 𝓤 H 𝓜 𝓡 code.env)) (
       cited 𝓤 H (Called 𝓤 H A slot.ended (slot.clauses 𝓤 H A mem run)) 𝓜 𝓡 code.env slot.Symbol.name slot.Symbol.routine code.calls-writer·acks·ack-slot (slot.Met.met 𝓤 H 𝓜 𝓖 𝓡),
       cited 𝓤 H (Called 𝓤 H A swap.ended (swap.clauses 𝓤 H A mem run)) 𝓜 𝓡 code.env swap.Symbol.name swap.Symbol.routine code.calls-ring-buffer·swap-record (swap.Met.met 𝓤 H 𝓜 𝓖 𝓡),
       cited 𝓤 H (Called 𝓤 H A put.ended (put.clauses 𝓤 H A mem run)) 𝓜 𝓡 code.env put.Symbol.name put.Symbol.routine code.calls-writer·acks·put-ack (put.Met.met 𝓤 H 𝓜 𝓖 𝓡),
-    ))
+    )))
