@@ -9,9 +9,7 @@ use Rattle.walks.proofs.Names.{_≡_, refl, List, [], _∷_, ℕ, _<_, _^_, len
 use Rattle.walks.proofs.Names.{Heap, Env, Calls, Loops, Atoms, Fun, fact, Given, Item, ‵, raw, _⊛_, Seq, Post, lands, runs, _$_, move, drop, use1, use2, split, fsplit, feqL, Opds, FmC, RattleType, Is}
 use Rattle.walks.proofs.Names.{RefT, plain, yes, usize, sliceVal, MutSlice, ShrSlice, finally, shr-slice-copy, Contract, Triple}
 use Rattle.walks.proofs.Steps.{Kind, a-word, lent-in, Called, calls-by, calls-value}
-use Rattle.ring_buffer.specs.Ring.{blank}
-use Rattle.ring_buffer.specs.declared.AckData.{AckData}
-use Rattle.ring_buffer.specs.declared.RingBuffer.{RingBuffer}
+use Rattle.ring_buffer.specs.{Ring.blank, declared.AckData.AckData, declared.RingBuffer.RingBuffer}
 use Rattle.ring_buffer.proofs.Record.{R, G, mach, ringv, an-ack, a-ring}
 use Rattle.ring_buffer.proofs.swap_record as swap
 use Rattle.ring_buffer.proofs.record_at as fetch

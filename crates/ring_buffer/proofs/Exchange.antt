@@ -12,8 +12,7 @@ use Rattle.walks.proofs.Names.{rvOpd, aggregate, addrOf, Val, vint, vptr, SProp
 use Rattle.walks.proofs.Names.{split, group, init, stop, hop, fld, from, load, addr, of-opd, and-then, no-more, agg, whole, sub, look-in, FmC, fmOf, RattleType, Is, RefT, usize, sliceTy, MutSlice}
 use Rattle.walks.proofs.Names.{Room, finally, Triple}
 use Rattle.walks.proofs.Steps.{of-local, sets, gets, Kind, a-word}
-use Rattle.ring_buffer.specs.declared.AckData.{AckData}
-use Rattle.ring_buffer.specs.declared.RingBuffer.{RingBuffer}
+use Rattle.ring_buffer.specs.{declared.AckData.AckData, declared.RingBuffer.RingBuffer}
 use Rattle.ring_buffer.proofs.Record.{R, G, record-ty, ring-ty, word, slice, thin, mach, ringv, cells, slicev, an-ack}
 use Rattle.ring_buffer.proofs.Calls.{Asked, asks, AskedOf, asks-of, Swapped, Swap, swaps}
 use Rattle.ring_buffer.proofs.swap_record.Symbol as swap-def

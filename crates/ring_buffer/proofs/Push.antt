@@ -13,11 +13,7 @@ use Rattle.walks.proofs.Names.{Atoms, Fun, fact, givenOf, tables, tablesOf, Giv
 use Rattle.walks.proofs.Names.{plain, nothing, yes, usize, MutSlice, Room, finally, slice-vals, mut-slice-tells, Triple, onEntry, says, Stays, gave-slice, stay-none, goes-gave-slice, goes-none}
 use Rattle.walks.proofs.Names.{walkOf, ends-at}
 use Rattle.walks.proofs.Steps.{Kind, an-enum, has, Called, meets-by}
-use Rattle.ring_buffer.specs.Ring.{Outcome, leaves}
-use Rattle.ring_buffer.specs.Says.{pushedSays, ringPushed}
-use Rattle.ring_buffer.specs.Told.{PushTold}
-use Rattle.ring_buffer.specs.declared.AckData.{AckData}
-use Rattle.ring_buffer.specs.declared.RingBuffer.{RingBuffer}
+use Rattle.ring_buffer.specs.{Ring.Outcome, Ring.leaves, Says.pushedSays, Says.ringPushed, Told.PushTold, declared.AckData.AckData, declared.RingBuffer.RingBuffer}
 use Rattle.ring_buffer.proofs.Cases.{same-outcome}
 use Rattle.ring_buffer.proofs.Record.{R, G, mach, ringv, cells, slicev, record-vals, ring-vals, record-tells, ring-tells, an-ack, a-ring}
 use Rattle.ring_buffer.proofs.Calls.{Asked, AskedOf, Swap}

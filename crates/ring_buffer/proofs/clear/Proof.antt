@@ -2,18 +2,13 @@
 use Rattle.walks.proofs.Frame.{Blocks, envOf, started, enters, leaves}
 use Rattle.walks.proofs.Again.{LentAgain, lends-at, back-at}
 use Rattle.walks.proofs.Names.{_≡_, refl, ap, _∙_, Bool, true, false, List, [], _∷_, ℕ, _+_, _<_, _^_, zero-le, le-antisymm, lt-of-le-of-lt, add-one-le, add-one-dec, length, set, ltb, lit<, ltb-true}
-use Rattle.walks.proofs.Names.{ltb-false, URA, fullShare, named, w64, place, Val, vint, SProp, ent, emp, via, fst∗, Fml, GName, Lft, Share, ftrue, flft, fat, Memory, Routine, Heap, Out, Env, afterSeq}
+use Rattle.walks.proofs.Names.{ltb-false, URA, fullShare, named, w64, Val, vint, SProp, ent, emp, via, fst∗, Fml, GName, Lft, Share, ftrue, flft, fat, Memory, Routine, Heap, Out, Env, afterSeq}
 use Rattle.walks.proofs.Names.{afterBlock, Wp, atReturn, WpFn, Tables, afterTurn, Atoms, Fun, givenOf, tables, tablesOf, Given, Item, ‵, _⊛_, some, later, ⋆, Sq, runs, anyQ, atRet, _$_, _∵_, !, qed}
 use Rattle.walks.proofs.Names.{by, move, keep, use2, use3, split, join, group, pick, rewrite, fsplit, fjoin, suffices, frame, await, done, init, store, forget, stop, hop, fld, from, load, lit, addr}
 use Rattle.walks.proofs.Names.{of-opd, bin, and-then, no-more, assigns-last, first, blocks, exec, Below, again, loops, agg, whole, sub, look-in, lft-new, lft-end, FmC, fmOf, owns, Is, RefT, plain}
 use Rattle.walks.proofs.Names.{nothing, yes, usize, MutSlice, Room, slice-vals, mut-slice-tells, Triple, onEntry, cited, says, Stays, stay-slice, stay-none, goes-slice, goes-none, walkOf, ends-at}
 use Rattle.walks.proofs.Steps.{of-local, sets, gets, stays-if, leaves-if, Kind, a-word, an-enum, has, relent, in-memory, owned-slice, Upto, Nearer, Nearer-wf, meets-by}
-use Rattle.ring_buffer.specs.Ring.{blank, blanked}
-use Rattle.ring_buffer.specs.Places.{slotOf, clearTurns}
-use Rattle.ring_buffer.specs.Told.{ClearTold}
-use Rattle.ring_buffer.specs.declared.AckData.{AckData}
-use Rattle.ring_buffer.specs.declared.RingBuffer.{RingBuffer}
-use Rattle.ring_buffer.specs.declared.Cleared.{Cleared}
+use Rattle.ring_buffer.specs.{Ring.blank, Ring.blanked, Places.slotOf, Places.clearTurns, Told.ClearTold, declared.AckData.AckData, declared.RingBuffer.RingBuffer, declared.Cleared.Cleared}
 use Rattle.ring_buffer.proofs.Cases.{same-outcome, clear-cells, turns-in, turns-fit}
 use Rattle.ring_buffer.proofs.Blanked.{length-blanked, blanked-none, blanked-next}
 use Rattle.ring_buffer.proofs.Positions.{slot-is}

@@ -1,18 +1,12 @@
 -- `ring_buffer::front` meets its contract: a walk of its MIR, by hand: two covered callees by value, and `record_at`, to which the shared slice is copied. Assumes nothing.
 use denote.Ref.{now}
 use Rattle.walks.proofs.Frame.{enters, leaves}
-use Rattle.walks.proofs.Names.{_≡_, refl, ap, _∙_, List, [], _∷_, ℕ, getD, URA, named, w64, place, Val, vint, SProp, ent, emp, via, fst∗, Lft, Share, ftrue, flft, Memory, Routine, Heap, WpFn, Tables}
+use Rattle.walks.proofs.Names.{_≡_, refl, ap, _∙_, List, [], _∷_, ℕ, getD, URA, named, w64, Val, vint, SProp, ent, emp, via, fst∗, Lft, Share, ftrue, flft, Memory, Routine, Heap, WpFn, Tables}
 use Rattle.walks.proofs.Names.{Atoms, Fun, givenOf, tables, tablesOf, Given, Item, ‵, _⊛_, ⋆, _$_, _∵_, !, qed, by, move, keep, split, join, group, fsplit, fjoin, suffices, frame, done, init, stop}
 use Rattle.walks.proofs.Names.{fld, from, load, of-opd, and-then, no-more, whole, sub, look-in, FmC, fmOf, owns, Is, RefT, plain, nothing, yes, usize, ShrSlice, Room, slice-vals, shr-slice-tells}
 use Rattle.walks.proofs.Names.{Triple, onEntry, cited, says, Stays, stay-none-slice, stay-none, goes-none-slice, goes-none, walkOf, ends-at}
 use Rattle.walks.proofs.Steps.{of-local, sets, gets, Kind, a-word, an-enum, has, meets-by}
-use Rattle.ring_buffer.specs.Ring.{blank, front}
-use Rattle.ring_buffer.specs.Says.{peekedSays}
-use Rattle.ring_buffer.specs.Places.{popPlace}
-use Rattle.ring_buffer.specs.Told.{PeekTold}
-use Rattle.ring_buffer.specs.declared.AckData.{AckData}
-use Rattle.ring_buffer.specs.declared.RingBuffer.{RingBuffer}
-use Rattle.ring_buffer.specs.declared.Peeked.{Peeked}
+use Rattle.ring_buffer.specs.{Ring.blank, Ring.front, Says.peekedSays, Places.popPlace, Told.PeekTold, declared.AckData.AckData, declared.RingBuffer.RingBuffer, declared.Peeked.Peeked}
 use Rattle.ring_buffer.proofs.Record.{R, G, mach, ringv, cells, slicev, ring-vals, ring-tells, an-ack, a-ring}
 use Rattle.ring_buffer.proofs.Calls.{Asked, asks, AskedOf, asks-of, Fetch, fetches}
 use Rattle.ring_buffer.proofs.Exchange.{At-place}

@@ -1,16 +1,12 @@
 -- `ring_buffer::pop_front` meets its contract: `Exchange.antt`'s walk of the blank record, which it makes first. Assumes nothing.
 use denote.Ref.{now}
 use Rattle.walks.proofs.Frame.{enters}
-use Rattle.walks.proofs.Names.{refl, _∙_, List, [], _∷_, URA, named, place, Val, SProp, ent, emp, via, fst∗, Lft, Share, ftrue, flft, Memory, Routine, Heap, WpFn, Tables, Atoms, Fun, givenOf, tables}
+use Rattle.walks.proofs.Names.{refl, _∙_, List, [], _∷_, URA, named, Val, SProp, ent, emp, via, fst∗, Lft, Share, ftrue, flft, Memory, Routine, Heap, WpFn, Tables, Atoms, Fun, givenOf, tables}
 use Rattle.walks.proofs.Names.{tablesOf, Given, ‵, _⊛_, _$_, _∵_, !, qed, move, keep, split, join, group, fsplit, fjoin, suffices, frame, done, init, lit, and-then, no-more, agg, owns, Is, RefT}
 use Rattle.walks.proofs.Names.{plain, nothing, yes, usize, MutSlice, Room, finally, slice-vals, mut-slice-tells, Triple, onEntry, cited, says, Stays, gave-slice, stay-none, goes-gave-slice, goes-none}
 use Rattle.walks.proofs.Names.{walkOf, ends-at}
 use Rattle.walks.proofs.Steps.{sets, Kind, an-enum, has, meets-by}
-use Rattle.ring_buffer.specs.Ring.{blank}
-use Rattle.ring_buffer.specs.Places.{popPlace}
-use Rattle.ring_buffer.specs.Told.{PopTold}
-use Rattle.ring_buffer.specs.declared.AckData.{AckData}
-use Rattle.ring_buffer.specs.declared.RingBuffer.{RingBuffer}
+use Rattle.ring_buffer.specs.{Ring.blank, Places.popPlace, Told.PopTold, declared.AckData.AckData, declared.RingBuffer.RingBuffer}
 use Rattle.ring_buffer.proofs.Cases.{same-outcome, pop-cells}
 use Rattle.ring_buffer.proofs.Record.{R, G, ringv, cells, slicev, ring-vals, ring-tells, blank-is, an-ack, a-ring}
 use Rattle.ring_buffer.proofs.Calls.{Asked, AskedOf, Swap}

@@ -1,8 +1,6 @@
 -- `ring_buffer::push_back` meets its contract: its MIR is `Push.antt`'s shape at `back_place` and `back_answer`. Assumes nothing.
-use Rattle.walks.proofs.Names.{place, tablesOf, usize, cited}
-use Rattle.ring_buffer.specs.Ring.{pushBack}
-use Rattle.ring_buffer.specs.Told.{PushTold}
-use Rattle.ring_buffer.specs.Places.{backPlace}
+use Rattle.walks.proofs.Names.{tablesOf, usize, cited}
+use Rattle.ring_buffer.specs.{Ring.pushBack, Told.PushTold, Places.backPlace}
 use Rattle.ring_buffer.proofs.Cases.{back-cells}
 use Rattle.ring_buffer.proofs.Record.{R}
 use Rattle.ring_buffer.proofs.Calls.{Asked, AskedOf, Swap}

@@ -1,8 +1,6 @@
 -- `ring_buffer::push_front` meets its contract: its MIR is `Push.antt`'s shape at `front_place` and `front_answer`. Assumes nothing.
-use Rattle.walks.proofs.Names.{place, tablesOf, usize, cited}
-use Rattle.ring_buffer.specs.Ring.{pushFront}
-use Rattle.ring_buffer.specs.Told.{PushTold}
-use Rattle.ring_buffer.specs.Places.{frontPlace}
+use Rattle.walks.proofs.Names.{tablesOf, usize, cited}
+use Rattle.ring_buffer.specs.{Ring.pushFront, Told.PushTold, Places.frontPlace}
 use Rattle.ring_buffer.proofs.Cases.{front-cells}
 use Rattle.ring_buffer.proofs.Record.{R}
 use Rattle.ring_buffer.proofs.Calls.{Asked, AskedOf, Swap}

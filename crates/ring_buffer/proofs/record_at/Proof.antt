@@ -7,8 +7,7 @@ use Rattle.walks.proofs.Names.{qed, by, move, keep, split, join, group, rewrite
 use Rattle.walks.proofs.Names.{bin, and-then, no-more, first, branches, skips, exec, agg, whole, sub, look-in, owns, Is, shows, uint-vals, uint-tells, RefT, plain, nothing, yes, usize, sliceVal}
 use Rattle.walks.proofs.Names.{ShrSlice, Room, slice-vals, shr-slice-tells, onEntry, says, Stays, stay-none-slice, stay-none, goes-none-slice, goes-none, walkOf, ends-at}
 use Rattle.walks.proofs.Steps.{of-local, sets, a-word, has, meets-by}
-use Rattle.ring_buffer.specs.Ring.{blank}
-use Rattle.ring_buffer.specs.declared.AckData.{AckData}
+use Rattle.ring_buffer.specs.{Ring.blank, declared.AckData.AckData}
 use Rattle.ring_buffer.proofs.Record.{R, mach, record-vals, record-tells, record-copy, blank-is, offset-fits, an-ack}
 use Rattle.ring_buffer.proofs.record_at as self
 use Rattle.ring_buffer.proofs.record_at.Code as code

@@ -216,7 +216,8 @@ consume-acks-into-spec 𝓤 H 𝓜 𝓖 𝓡 =
     (λ κs. (ring-vals, (slice-vals, (uint-vals w64, (uint-vals w32, (uint-vals w32, (slice-vals, tt)))))))
     (λ κs. (ring-tells, (mut-slice-tells (named 0) (κs .0) R, (uint-tells w64, (uint-tells w32, (uint-tells w32, (mut-slice-tells (named 1) (κs .1 .0) u8, tt)))))))
     (λ κs qs bounds a _ are. via 𝓤 _ (fst∗ 𝓤 _ (emp 𝓤)) (walk 𝓤 H A W mem run (κs .0) (κs .1 .0) bounds (qs .0) (qs .1 .0) (a .0) (a .1 .0) (a .1 .1 .0) (a .1 .1 .1 .0)
-    (a .1 .1 .1 .1 .0) (a .1 .1 .1 .1 .1 .0) (are .0) (are .1 .0 .0 .1) (are .1 .1 .0 .1) (are .1 .1 .1 .0 .1) (are .1 .1 .1 .1 .0 .1) (are .1 .1 .1 .1 .1 .0 .0 .1) (tablesOf 𝓤 H 𝓜 (tables 𝓤 H 𝓜 𝓡 code.env)) (
+    (a .1 .1 .1 .1 .0) (a .1 .1 .1 .1 .1 .0) (are .0) (are .1 .0 .0 .1) (are .1 .1 .0 .1) (are .1 .1 .1 .0 .1) (are .1 .1 .1 .1 .0 .1) (are .1 .1 .1 .1 .1 .0 .0 .1)
+    (tablesOf 𝓤 H 𝓜 (tables 𝓤 H 𝓜 𝓡 code.env)) (
       cited 𝓤 H (Called 𝓤 H A due′.ended (due′.clauses 𝓤 H A mem run)) 𝓜 𝓡 code.env due′.Symbol.name due′.Symbol.routine code.calls-writer·acks·acks-due (due′.Met.met 𝓤 H 𝓜 𝓖 𝓡),
       cited 𝓤 H (Called 𝓤 H A any.ended (any.clauses 𝓤 H A mem run)) 𝓜 𝓡 code.env any.Symbol.name any.Symbol.routine code.calls-writer·acks·any-too-large (any.Met.met 𝓤 H 𝓜 𝓖 𝓡),
       cited 𝓤 H (Called 𝓤 H A bat.ended (bat.clauses 𝓤 H A mem run)) 𝓜 𝓡 code.env bat.Symbol.name bat.Symbol.routine code.calls-writer·acks·ack-batch (bat.Met.met 𝓤 H 𝓜 𝓖 𝓡),
