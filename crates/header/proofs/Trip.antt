@@ -13,7 +13,7 @@ use borrow.Author.Tests.{lt-ltb, le-leb, lt-leb, leb-true, leb-false}
 use Rattle.refusal.specs.Said.{answers}
 use Rattle.lists.proofs.Paste.{drop-pasted}
 use Rattle.lists.proofs.Bytes.{Bytes}
-use Rattle.parts.specs.BigEndian.{bytesOf, numberAt}
+use Rattle.parts.specs.BigEndian.{numberAt}
 use Rattle.parts.proofs.BigEndian.{number-append, number-drop, number-bytes, bytes-number}
 use Rattle.header.specs.declared.BluefinSecurityFields.{BluefinSecurityFields}
 use Rattle.header.specs.declared.BluefinHeader.{BluefinHeader}

@@ -2,7 +2,7 @@
 -- other words: proofs/RustPacking.antt shows that both make the same packets and leave the same queue, whatever was queued.
 -- The tests before a subtraction keep it from falling below 0, and a payload's length fits the header's field. `*next_packet_num += 1` overflows where document 01
 -- refuses with 9; there the two are not compared, and numbers go on here.
-use Prim.Native.Nat.{ℕ, zero, suc, _+_, _-_, _*_, min}
+use Prim.Native.Nat.{ℕ, zero, suc, _+_, _-_, min}
 use mathlib.Core.Bool.{Bool, true, false, not, cond, _&&_}
 use mathlib.Core.List.{List, [], _∷_, _++_, map, flatten}
 use mathlib.Core.Option.{Option, none, some, Option·map}
