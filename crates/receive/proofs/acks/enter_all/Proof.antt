@@ -49,13 +49,13 @@ loop-again c =
     let made = c .before .before .before .before in
     let test = made .before .before .before .before in
     let at = test .before in
-    let k = start (at .before) in
-    let on = acks-on (now (k .args .datagram)) (now (k .args .index)) (k .args .n) (at .loop .i) _ (test .loop-test .taken) (k .pre .1 .cells) in (
+    let k = start (at .before) in (
       omega (arith, test .loop-test .taken),
       made .enter-listed .ensures .good,
       search needs,
       search needs,
-      ap (left k (at .loop .i + 1)) (made .enter-listed .ensures .same) ∙ sym on ∙ at .loop .inv .4,
+      ap (left k (at .loop .i + 1)) (made .enter-listed .ensures .same)
+          ∙ sym (acks-on (now (k .args .datagram)) (now (k .args .index)) (k .args .n) (at .loop .i) _ (test .loop-test .taken) (k .pre .1 .cells)) ∙ at .loop .inv .4,
     )
 
 returns : tie.Need-returns Inv-loop μ-loop

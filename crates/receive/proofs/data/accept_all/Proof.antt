@@ -60,15 +60,15 @@ loop-again c =
     let made = known .before .before .before .before in
     let test = turn (made .before) in
     let at = test .before in
-    let k = start (at .before) in
-    let on = rest-on 3 accepts (now (k .args .datagram)) (now (k .args .index)) (k .args .n) (at .loop .i) _ (test .loop-test .taken) (k .pre .1 .cells) in (
+    let k = start (at .before) in (
       omega (arith, test .loop-test .taken),
       made .accept-listed .ensures .good,
       search needs,
       search needs,
       search needs,
       search needs,
-      ap (left k (at .loop .i + 1)) (made .accept-listed .ensures .same) ∙ sym on ∙ at .loop .inv .6,
+      ap (left k (at .loop .i + 1)) (made .accept-listed .ensures .same)
+          ∙ sym (rest-on 3 accepts (now (k .args .datagram)) (now (k .args .index)) (k .args .n) (at .loop .i) _ (test .loop-test .taken) (k .pre .1 .cells)) ∙ at .loop .inv .6,
     )
 
 returns : tie.Need-returns Inv-loop μ-loop
