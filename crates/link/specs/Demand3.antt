@@ -14,7 +14,7 @@ use Rattle.lists.specs.Numbers.{largest}
 use Rattle.header.specs.Types.{typeNumber}
 use Rattle.packet.specs.Packet.{Packet, joined}
 use Rattle.packet.specs.Datagram.{parses, parsesInto, cellsIn, cellsWritten, listed}
-use Rattle.writer.specs.Packing.{Queue, packing, packetsMade, dequeued, byteLimit, payloadSize}
+use Rattle.writer.specs.Packing.{Queue, consumesData, packetsMade, dequeued, byteLimit, payloadSize}
 use Rattle.writer.specs.Reserve.{reserving}
 use Rattle.writer.specs.declared.DataPacked.{DataPacked}
 use Rattle.ordered_bytes.specs.Buffer.{Buffer}
@@ -175,13 +175,13 @@ enqueued entries d =
     let q : Queue = record { bytes = d .queue .bytes ++ flatten entries; lengths = d .queue .lengths ++ map length entries } in
     withQueue q (withQueued (d .queued ++ flatten entries) d)
 
--- how many bytes a packing may take
+-- how many bytes a packing may take, as the packets made and what is said of them count it
 abbrev pub limitOf : SenderSide → ℕ
 limitOf d = byteLimit
 
--- what a packing says, and its output as it leaves it
+-- what a packing says, and its output as it leaves it: by the call's own definition
 abbrev pub packingOf : SenderSide → ℕ → ℕ → List ℕ → Said DataPacked × List ℕ
-packingOf d src dst out = packing (limitOf d) (d .queue) (d .next) src dst out
+packingOf d src dst out = consumesData (d .queue) (d .next) src dst out
 
 abbrev pub packedBy : Said DataPacked → ℕ → ℕ → SenderSide → SenderSide
 packedBy (answers p) src dst d =
