@@ -112,10 +112,10 @@ bluefin_written bluefin_packet_serialise_into(bluefin_header header, const uint8
 bluefin_header_read bluefin_packet_deserialise(const uint8_t *bytes, size_t bytes_len);
 
 /*
- * Lists the packets of a datagram of up to 65,527 bytes: for each, two numbers of the index, its header's offset and its payload's length.
- * index_len counts those numbers, twice as many as packets; 6,552 have room for every datagram. Numbers after those of the packets stay.
- * Refusals: 11, 1, and for each packet 4, 2, 10, at the end 3. `from_bytes` then leaves the index as it was, and answers 0 packets;
- * `from_bytes_into` leaves the packets before the refusal listed, and answers how many they are.
+ * Lists the packets of a datagram of up to 65,507 bytes, the longest over IPv4: for each, two numbers of the index, its header's offset and
+ * its payload's length. index_len counts those numbers, twice as many as packets; 6,550 have room for every datagram. Numbers after those of
+ * the packets stay. Refusals: 11 (65,508 bytes and more), 1, and for each packet 4, 2, 10, at the end 3. `from_bytes` then leaves the index
+ * as it was, and answers 0 packets; `from_bytes_into` leaves the packets before the refusal listed, and answers how many they are.
  */
 bluefin_parsed bluefin_from_bytes(const uint8_t *datagram, size_t datagram_len, uint32_t *index, size_t index_len);
 bluefin_parsed bluefin_from_bytes_into(const uint8_t *datagram, size_t datagram_len, uint32_t *index, size_t index_len);

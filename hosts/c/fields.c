@@ -1,7 +1,7 @@
 /*
  * The numbers of include/bluefin.h against the archive: each field of each struct holds another value than its neighbours, and each packet
  * type, refusal, close state and host kind is met by its name. So two fields or two names that are exchanged, in the archive or in the
- * header, are seen. It prints nothing, and ends with a failure where a number is off.
+ * header, are seen; and so is another longest datagram than the header names. It prints nothing, and ends with a failure where a number is off.
  */
 #include <string.h>
 
@@ -70,6 +70,35 @@ static void listing(void) {
     EXPECT(told.packets == 1 && told.cursor == 0 && told.refusal == BLUEFIN_BUFFER_SHORT);
     told = bluefin_from_bytes_into(cut, 24, index, 6);
     EXPECT(told.packets == 0 && told.cursor == 0 && told.refusal == BLUEFIN_PAYLOAD_MISSING);
+}
+
+/* The longest datagram, with as many packets as one can have, and a byte more. */
+static void longest(void) {
+    static uint8_t datagram[65508], answers[3275], store[2 * 8];
+    static uint32_t index[6550], lengths[1];
+    static bool marks[1];
+    uint64_t cells[1];
+    for (size_t at = 0; at < 65480; at += 20)
+        datagram[at] = BLUEFIN_ACK;
+    datagram[65480] = BLUEFIN_DATA;
+    bluefin_ordered_bytes o = bluefin_ordered_bytes_new(8, 0, marks, 1, lengths, 1, store, sizeof store).state;
+#define RECEIVE(length) bluefin_receive(o, datagram, length, index, 6550, answers, 3275, marks, 1, lengths, 1, store, sizeof store)
+#define RECEIVE_ACKS(length) bluefin_receive_acks(bluefin_window_new(0), cells, 1, datagram, length, index, 6550, answers, 3275)
+
+    datagram[65482] = 8;
+    EXPECT(bluefin_from_bytes(datagram, 65508, index, 6550).refusal == BLUEFIN_OUT_OF_RANGE);
+    EXPECT(bluefin_from_bytes_into(datagram, 65508, index, 6550).refusal == BLUEFIN_OUT_OF_RANGE);
+    EXPECT(RECEIVE(65508).refusal == BLUEFIN_OUT_OF_RANGE && RECEIVE_ACKS(65508).refusal == BLUEFIN_OUT_OF_RANGE);
+    EXPECT(index[0] == 0 && index[1] == 0 && index[2] == 0 && !marks[0]);
+
+    datagram[65482] = 7;
+    EXPECT(bluefin_from_bytes(datagram, 65507, index, 6549).refusal == BLUEFIN_BUFFER_SHORT);
+    bluefin_parsed told = bluefin_from_bytes(datagram, 65507, index, 6550);
+    EXPECT(told.packets == 3275 && told.refusal == 0 && index[6548] == 65480 && index[6549] == 7);
+    EXPECT(bluefin_from_bytes_into(datagram, 65507, index, 6550).packets == 3275);
+    EXPECT(RECEIVE(65507).packets == 3275 && marks[0] && RECEIVE_ACKS(65507).packets == 3275);
+#undef RECEIVE
+#undef RECEIVE_ACKS
 }
 
 static bool same_state(bluefin_ordered_bytes o, size_t front_slot, uint64_t front_number, size_t carry_len) {
@@ -239,6 +268,7 @@ static void hosts(void) {
 int main(void) {
     headers();
     listing();
+    longest();
     buffer();
     windows();
     rings();

@@ -9,6 +9,8 @@ pub mod linked;
 #[cfg(test)]
 mod reached;
 pub mod record;
+#[cfg(test)]
+mod requests;
 pub mod utils;
 pub mod worker;
 

@@ -1,4 +1,5 @@
--- The packets of a datagram: document 01, "From a datagram to packets"; `from_bytes` and `from_bytes_into` of core/packet.rs.
+-- The packets of a datagram: document 01, "From a datagram to packets", with the reading limit of document 02 §1;
+-- `from_bytes` and `from_bytes_into` of core/packet.rs.
 use Prim.Native.Nat.{ℕ, zero, suc, _+_, _-_, _*_, _/_, _<_, _≤_, min}
 use mathlib.Core.Bool.{Bool, not, cond, _&&_, _||_}
 use mathlib.Core.List.{List, [], _∷_}
@@ -13,9 +14,9 @@ use Rattle.packet.specs.Packet.{Packet}
 use Rattle.packet.specs.declared.Parsed.{Parsed}
 use Rattle.packet.specs.declared.Parsed.the-variants as parsedAs
 
--- "At most 65,527 bytes (RFC 768's length less its 8 header bytes)"
+-- 02 §1, in place of 01's 65,527: "The studio runs IPv4, whose total length of 65,535 includes at least 20 header bytes, then UDP's 8. So the reading limit becomes 65,507"
 unfoldable pub readingLimit : ℕ
-readingLimit = 65527
+readingLimit = 65507
 
 -- ---- one packet of a datagram
 
@@ -59,7 +60,7 @@ walkBy (suc steps) s at =
 abbrev pub walkAt : List ℕ → ℕ → Walk
 walkAt s at = walkBy (suc (length s - at)) s at
 
--- "At most 65,527 bytes .., else 11. Then under 20 bytes: 1."
+-- 02 §1: "11 covers 65,508 and up". 01: "Then under 20 bytes: 1."
 unfoldable pub packetsOf : List ℕ → Walk
 packetsOf s = cond (ltb readingLimit (length s)) (ends (refuses 11)) (cond (ltb (length s) 20) (ends (refusesAt 1 0)) (walkAt s 0))
 

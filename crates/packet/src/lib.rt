@@ -15,8 +15,8 @@ ghost use Rattle.packet.specs.Packet.{serialisesInto, deserialises, payl
 ghost use Rattle.packet.specs.Datagram.{parsed, parses, parsesInto, indexes, parsedSays};
 ghost use Rattle.packet.specs.Step.{lookAt, Stepped};
 
-// RFC 768's longest length, less the 8 bytes of its header.
-pub const READING_LIMIT: usize = 65527;
+// The longest datagram that is read, document 02 §1: IPv4's total length of 65,535, less 20 bytes of its own header and 8 of UDP's.
+pub const READING_LIMIT: usize = 65507;
 
 pub enum PacketWritten {
     Bytes(usize),

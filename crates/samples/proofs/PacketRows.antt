@@ -11,6 +11,10 @@ packet-rows = search
 longest-rows : LongestRows
 unfolding readingLimit payloadMissing walkBy packetsOf flat parsed
 longest-rows = record {
+  limit = refl;
+  room = refl;
+  bytes-65507 = (refl, refl);
+  bytes-65508 = (refl, refl);
   bytes-65527 = (refl, refl);
   too-long-before-tail = (refl, refl);
   too-long-before-type = (refl, refl);

@@ -1,5 +1,5 @@
--- Boundaries of a packet alone and of both parsers: document 01, "The header, last leaf" and "From a datagram to packets".
-use Prim.Native.Nat.{ℕ}
+-- Boundaries of a packet alone and of both parsers: document 01, "The header, last leaf" and "From a datagram to packets", with the reading limit of document 02 §1.
+use Prim.Native.Nat.{ℕ, _-_, _*_, _/_}
 use mathlib.Core.Path.{_≡_}
 use mathlib.Core.Bool.{false}
 use mathlib.Core.List.{List, [], _∷_, _++_}
@@ -8,7 +8,7 @@ use Rattle.refusal.specs.Said.{Said, answers, refuses, refusesAt}
 use Rattle.header.specs.declared.PacketType.the-variants.{UnencryptedData, Ack, FinAck}
 use Rattle.header.specs.declared.BluefinHeader.{BluefinHeader}
 use Rattle.packet.specs.Packet.{serialisesInto, deserialises, payloadOf}
-use Rattle.packet.specs.Datagram.{parses, parsesInto}
+use Rattle.packet.specs.Datagram.{readingLimit, parses, parsesInto}
 use Rattle.samples.specs.Inputs.{Leaves, lent, security, header, headOf, head}
 
 -- ---- a packet alone
@@ -77,17 +77,24 @@ two = head 3 2 7 ++ (1 ∷ 2 ∷ [])
 abbrev pub unknown : List ℕ
 unknown = head 7 0 7
 
--- one data packet of 65,527 bytes: 65,507 is 255 * 256 + 227
+-- one data packet of 65,507 bytes: its payload's 65,487 are 255 * 256 + 207
 abbrev pub longest : List ℕ
-longest = headOf 3 255 227 7 ++ replicate 65507 0
+longest = headOf 3 255 207 7 ++ replicate 65487 0
 
 -- the longest datagram, and one byte more
 pub record LongestRows : Type 0 where
-  -- "At most 65,527 bytes .., else 11": before 3 (a byte too many), 4 (type 7), 2 (field 65,535) and 10 (no cell)
-  pub bytes-65527 : BothParse longest three (answers 1) (0 ∷ 65507 ∷ 99 ∷ 99 ∷ 99 ∷ 99 ∷ [])
+  -- 02 §1: "IPv4, whose total length of 65,535 includes at least 20 header bytes, then UDP's 8"
+  pub limit : readingLimit ≡ 65535 - 20 - 8
+  -- the numbers of an index that has room for every datagram, as include/bluefin.h has it (`room-enough` of packet/proofs/Index.antt): packets have 20 bytes or more
+  pub room : readingLimit / 20 * 2 ≡ 6550
+  pub bytes-65507 : BothParse longest three (answers 1) (0 ∷ 65487 ∷ 99 ∷ 99 ∷ 99 ∷ 99 ∷ [])
+  -- "11 covers 65,508 and up": a packet to the very end, which 01 read, as it did 65,527 bytes
+  pub bytes-65508 : BothParse (headOf 3 255 208 7 ++ replicate 65488 0) three (refuses 11) three
+  pub bytes-65527 : BothParse (headOf 3 255 227 7 ++ replicate 65507 0) three (refuses 11) three
+  -- before 3 (a byte too many), 4 (type 7), 2 (field 65,535) and 10 (no cell); 1 is under 20 bytes and meets it nowhere
   pub too-long-before-tail : BothParse (longest ++ (0 ∷ [])) three (refuses 11) three
-  pub too-long-before-type : BothParse (headOf 7 0 0 7 ++ replicate 65508 0) three (refuses 11) three
-  pub too-long-before-payload : BothParse (headOf 3 255 255 7 ++ replicate 65508 0) three (refuses 11) three
+  pub too-long-before-type : BothParse (headOf 7 0 0 7 ++ replicate 65488 0) three (refuses 11) three
+  pub too-long-before-payload : BothParse (headOf 3 255 255 7 ++ replicate 65488 0) three (refuses 11) three
   pub too-long-before-cell : BothParse (longest ++ (0 ∷ [])) [] (refuses 11) []
 
 pub record ParserRows : Type 0 where

@@ -1,4 +1,5 @@
--- Boundaries of a whole datagram taken by one call. The calls are this library's own (docs/DECISIONS.md, "A whole datagram"): document 01 has their parts.
+-- Boundaries of a whole datagram taken by one call. The calls are this library's own (docs/DECISIONS.md, "A whole datagram"): document 01 has their parts,
+-- document 02 §1 the limit at which they read.
 use Prim.Native.Nat.{ℕ}
 use mathlib.Core.Path.{_≡_}
 use mathlib.Core.Bool.{true, false}
@@ -8,7 +9,7 @@ use Rattle.refusal.specs.Said.{Said, answers, refuses, refusesAt}
 use Rattle.ordered_bytes.specs.Buffer.{Buffer}
 use Rattle.window.specs.declared.SlidingWindow.{SlidingWindow}
 use Rattle.receive.specs.Datagram.{receiving, receivingAcks}
-use Rattle.samples.specs.Inputs.{lent, head}
+use Rattle.samples.specs.Inputs.{lent, head, headOf}
 use Rattle.samples.specs.BufferRows.{stateOf, bufferOf, nothing}
 use Rattle.samples.specs.BufferRows as buffers
 use Rattle.samples.specs.WindowRows.{window}
@@ -44,7 +45,29 @@ hundred = bufferOf (stateOf 3 0 100 0) (true ∷ false ∷ []) (2 ∷ 0 ∷ []) 
 abbrev pub both : Buffer
 both = bufferOf (stateOf 3 0 100 0) (true ∷ true ∷ []) (2 ∷ 1 ∷ []) (1 ∷ 2 ∷ 99 ∷ 3 ∷ 99 ∷ 99 ∷ 99 ∷ 99 ∷ 99 ∷ [])
 
+-- 65,507 bytes: a data packet at 100 and a long one at 99, whose payload's 65,465 are 255 * 256 + 185
+abbrev pub longest : List ℕ
+longest = two 100 ++ headOf 3 255 185 99 ++ replicate 65465 0
+
+-- .. and an ack before one of 65,467
+abbrev pub longestAck : List ℕ
+longestAck = ackTen ++ headOf 3 255 187 99 ++ replicate 65467 0
+
+-- the longest datagram, and one byte more
+pub record LongestReceived : Type 0 where
+  -- 02 §1: "the reading limit becomes 65,507; 11 covers 65,508 and up": with a byte more nothing is listed or taken
+  pub bytes-65507 : Receives nothing longest (lent 4) (lent 2) (answers 2) 2 (0 ∷ 2 ∷ 22 ∷ 65465 ∷ []) (0 ∷ 5 ∷ []) hundred
+  pub bytes-65508 : Receives nothing (longest ++ (0 ∷ [])) (lent 4) (lent 2) (refuses 11) 0 (lent 4) (lent 2) nothing
+  pub answers-before-length : Receives nothing (longest ++ (0 ∷ [])) (lent 4) (lent 1) (refuses 10) 0 (lent 4) (lent 1) nothing
+
+pub record LongestAcks : Type 0 where
+  pub bytes-65507 : ReceivesAcks (window 10 0) (lent 3) longestAck (lent 4) (lent 2)
+      (answers 2) 2 (0 ∷ 0 ∷ 20 ∷ 65467 ∷ []) (0 ∷ 99 ∷ []) (window 10 2) (10 ∷ 11 ∷ 99 ∷ [])
+  pub bytes-65508 : ReceivesAcks (window 10 0) (lent 3) (longestAck ++ (0 ∷ [])) (lent 4) (lent 2) (refuses 11) 0 (lent 4) (lent 2) (window 10 0) (lent 3)
+  pub answers-before-length : ReceivesAcks (window 10 0) (lent 3) (longestAck ++ (0 ∷ [])) (lent 4) (lent 1) (refuses 10) 0 (lent 4) (lent 1) (window 10 0) (lent 3)
+
 pub record ReceiveRows : Type 0 where
+  pub longest-ones : LongestReceived
   -- each answer at its packet's own place, 0 or the refusal's number; the places of other packets stay
   pub two-of-three : Receives nothing (two 100 ++ ackTen ++ one 101) (lent 7) (lent 4)
       (answers 3) 3 (0 ∷ 2 ∷ 22 ∷ 0 ∷ 42 ∷ 1 ∷ 99 ∷ []) (0 ∷ 99 ∷ 0 ∷ 99 ∷ []) both
@@ -60,6 +83,7 @@ pub record ReceiveRows : Type 0 where
       ≡ map (λ b. record { said = refuses 12; cells = 0; index = lent 2; answers = []; state = b }) buffers.malformed
 
 pub record ReceiveAcksRows : Type 0 where
+  pub longest-ones : LongestAcks
   pub one-of-two : ReceivesAcks (window 10 0) (lent 3) (two 100 ++ ackTen) (lent 4) (lent 2)
       (answers 2) 2 (0 ∷ 2 ∷ 22 ∷ 0 ∷ []) (99 ∷ 0 ∷ []) (window 10 2) (10 ∷ 11 ∷ 99 ∷ [])
   pub refused-ones : ReceivesAcks (window 10 0) (lent 3) (head 4 2 9 ++ head 4 0 9 ++ ackTen ++ head 4 3 9 ++ head 4 2 11 ++ head 4 2 12) (lent 12) (lent 6)

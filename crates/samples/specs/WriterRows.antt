@@ -113,8 +113,8 @@ pub record PayloadBytesRows : Type 0 where
   pub second-header-short : payloadBytes (head 3 1 7 ++ (5 ∷ []) ++ (3 ∷ 0 ∷ 0 ∷ [])) ≡ 1
   pub second-payload-short : payloadBytes (head 3 1 7 ++ (5 ∷ []) ++ head 3 2 8 ++ (1 ∷ [])) ≡ 1
   pub ack-payload-short : payloadBytes (head 4 3 9 ++ (1 ∷ 2 ∷ [])) ≡ 0
-  -- "and never refuses": not even 65,528 bytes
-  pub bytes-65528 : payloadBytes (headOf 3 255 228 7 ++ replicate 65508 0) ≡ 65508
+  -- "and never refuses": not even 65,508 bytes, which no parser reads
+  pub bytes-65508 : payloadBytes (headOf 3 255 208 7 ++ replicate 65488 0) ≡ 65488
 
 -- ---- a FIN's number
 

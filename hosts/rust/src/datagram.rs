@@ -4,8 +4,8 @@ use crate::header::{Header, HEADER_BYTES};
 use crate::refusal::{Refusal, RefusedAt};
 use crate::sys;
 
-/// The bytes of the largest datagram that is read.
-pub const LARGEST_DATAGRAM: usize = 65_527;
+/// The bytes of the largest datagram that is read: IPv4's total length of 65,535, less 20 of its own header and 8 of UDP's.
+pub const LARGEST_DATAGRAM: usize = 65_507;
 
 /// The packets that the largest datagram has room for.
 const MOST_PACKETS: usize = LARGEST_DATAGRAM / HEADER_BYTES;
@@ -208,6 +208,41 @@ mod tests {
         assert_eq!((refused.cursor, index.len()), (40, 2));
         assert_eq!(index.answers(), [0, Refusal::AlreadyHeld.number()]);
         assert_eq!(window.held(), [9, 10, 11]);
+    }
+
+    /// As many packets as a datagram can have: acks, and a data packet to the very end.
+    fn full(length: usize) -> Vec<u8> {
+        let mut bytes = vec![0; length];
+        let (acks, rest) = bytes.split_at_mut(HEADER_BYTES * (MOST_PACKETS - 1));
+        for place in acks.chunks_exact_mut(HEADER_BYTES) {
+            let ack = Header::new(1, 2, PacketType::Ack, 0, 9);
+            packet_serialise_into(ack, b"", place).unwrap();
+        }
+        let payload = vec![b'x'; rest.len() - HEADER_BYTES];
+        let data = Header::new(1, 2, PacketType::Data, payload.len() as u16, 7);
+        packet_serialise_into(data, &payload, rest).unwrap();
+        bytes
+    }
+
+    #[test]
+    fn a_datagram_is_read_up_to_the_largest() {
+        let largest = full(LARGEST_DATAGRAM);
+        let longer = full(LARGEST_DATAGRAM + 1);
+        let too_long = Err(RefusedAt {
+            refusal: Refusal::OutOfRange,
+            cursor: 0,
+        });
+        let mut index = Index::new();
+        assert_eq!(index.from_bytes(&largest), Ok(MOST_PACKETS));
+        assert_eq!(index.from_bytes(&longer), too_long);
+        assert_eq!(index.from_bytes_into(&longer), too_long);
+        assert!(index.is_empty());
+        let mut buffer = OrderedBytes::new(1, 8, 7).unwrap();
+        assert_eq!(buffer.receive(&longer, &mut index), too_long);
+        assert_eq!(buffer.receive(&largest, &mut index), Ok(MOST_PACKETS));
+        let mut window = SlidingWindow::new(9, 1);
+        assert_eq!(window.receive_acks(&longer, &mut index), too_long);
+        assert_eq!(window.receive_acks(&largest, &mut index), Ok(MOST_PACKETS));
     }
 
     #[test]

@@ -11,8 +11,8 @@ const PARSE: u64 = 1;
 const SERIALISE_INTO: u64 = 2;
 const DESERIALISE: u64 = 3;
 
-/// Above this a datagram is refused with 11; the Rust has no limit.
-const READING_LIMIT: usize = 65_527;
+/// Above this a datagram is refused with 11 (document 02 §1); the Rust has no limit.
+pub const READING_LIMIT: usize = 65_507;
 
 /// The Rust tells refusals 1, 2 and 3 apart by their messages only.
 fn refusal(error: BluefinError) -> u64 {
@@ -137,9 +137,13 @@ impl Component for Packet {
         for rest in [vec![], vec![0], packet(4, 3, b""), data(1)] {
             datagrams.push([&data(3)[..], &data(0), &rest].concat());
         }
-        // The longest datagrams: one payload, and acks alone.
-        datagrams.push(data(65_507));
+        // The longest datagrams: one payload, and acks alone. Then those that the Rust alone reads: a byte more, an ack more, and as many as UDP's
+        // length allows.
+        datagrams.push(data(65_487));
+        datagrams.push(packet(4, 1, b"").repeat(3275));
+        datagrams.push(data(65_488));
         datagrams.push(packet(4, 1, b"").repeat(3276));
+        datagrams.push(data(65_507));
         let mut cases: Vec<_> = datagrams
             .iter()
             .map(|datagram| ask_with(PARSE, &[], datagram))

@@ -34,20 +34,26 @@ stepped : (c : tie.After-step-at Inv-loop μ-loop) {r : Advance} → c .step-at 
     Stepped (now (start k .args .datagram)) (start k .args .room) (k .loop .at) (k .loop .n) r
 stepped c q = let k = c .before .before in subst (Stepped (now (start k .args .datagram)) (start k .args .room) (k .loop .at) (k .loop .n)) q (c .step-at .ensures)
 
+-- the code's limit by arithmetic here, so that another one is refused at the side on which it is wrong
 returns : tie.Need-returns Inv-loop μ-loop
 unfolding readingLimit
-returns c = ap said (sym (out-ending _ 0 [] zero-le (begin-long _ (c .if1 .taken)))) ∙ said-all _ _
+returns c =
+    let datagram = now (c .before .before .args .datagram) in
+    ap said (sym (out-ending _ 0 [] zero-le (begin-long datagram (omega (arith, c .if1 .taken))))) ∙ said-all _ _
 
 returns-2 : tie.Need-returns-2 Inv-loop μ-loop
 unfolding readingLimit
-returns-2 c = ap said (sym (out-ending _ 0 [] zero-le (begin-short _ (c .before .if1 .left) (c .if2 .taken)))) ∙ said-all _ _
+returns-2 c =
+    let datagram = now (c .before .before .before .args .datagram) in
+    ap said (sym (out-ending _ 0 [] zero-le (begin-short datagram (omega (arith, c .before .if1 .left)) (c .if2 .taken)))) ∙ said-all _ _
 
 loop-holds : tie.Need-loop-holds Inv-loop μ-loop
 unfolding readingLimit
 loop-holds c =
     let long = c .before .before in
-    let room = long .before .before .args .room in
-    let walk = begin-walk _ (long .if1 .left) (c .before .if2 .left) in
+    let args = long .before .before .args in
+    let room = args .room in
+    let walk = begin-walk (now (args .datagram)) (omega (arith, long .if1 .left)) (c .before .if2 .left) in
     (zero-le, zero-le, ap (λ (w : Walk). said (outcome room 0 [] w)) (sym walk) ∙ said-all _ room)
 
 step-at-requires : tie.Need-step-at-requires Inv-loop μ-loop

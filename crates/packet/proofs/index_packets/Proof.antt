@@ -1,6 +1,7 @@
--- `packet::index_packets` meets its contract. The invariant: what is still to be said and written, n packets standing in the index, is the whole.
+-- `packet::index_packets` meets its contract. The invariant: what is still to be said and written, n packets standing in the index, is the whole;
+-- and every offset and length fits a cell of 32 bits.
 -- Assumes nothing.
-use Prim.Native.Nat.{ℕ, _-_, _≤_, zero-le}
+use Prim.Native.Nat.{ℕ, _-_, _^_, _<_, _≤_, zero-le}
 use mathlib.Core.Path.{_≡_, refl, sym, ap, subst, _∙_}
 use native.Mathlib.Omega.{arith}
 use lib.ListN.{length, length-set}
@@ -17,7 +18,7 @@ abbrev Inv-loop : tie.InvT-loop
 Inv-loop datagram index₀ room types at₀ n₀ index at n =
     (at ≤ length datagram)
     × (n ≤ room)
-    × (length datagram ≤ 65527)
+    × (length datagram < 2 ^ 32)
     × (length index ≡ length index₀)
     × (outcome room n index (walkAt datagram at) ≡ indexes datagram index₀)
 
@@ -46,13 +47,17 @@ returns-2 c =
     let start = c .before .before .before .before in
     sym (out-ending _ 0 _ zero-le (begin-short _ (c .before .if1 .left) (c .if2 .taken))) ∙ out-all _ (now (start .args .index))
 
+fits-a-cell : (n : ℕ) → n ≤ readingLimit → n < 2 ^ 32
+unfolding readingLimit
+fits-a-cell n le = omega (arith, le)
+
 loop-holds : tie.Need-loop-holds Inv-loop μ-loop
 unfolding readingLimit
 loop-holds c =
     let long = c .before .before in
     let index = now (long .before .before .before .args .index) in
     let walk = begin-walk _ (long .if1 .left) (c .before .if2 .left) in
-    (zero-le, zero-le, long .if1 .left, refl, ap (outcome (cellsIn index) 0 index) (sym walk) ∙ out-all _ index)
+    (zero-le, zero-le, fits-a-cell _ (long .if1 .left), refl, ap (outcome (cellsIn index) 0 index) (sym walk) ∙ out-all _ index)
 
 step-at-requires : tie.Need-step-at-requires Inv-loop μ-loop
 step-at-requires c κs = (c .before .loop .inv .0, c .before .loop .inv .1, c .before .before .type-table .ensures)
