@@ -4,6 +4,7 @@ use crate::packet::{cells, index_for};
 use bluefin::sys;
 use bluefin_proto::error::BluefinError;
 use bytes::Bytes;
+use oracle::components::packet::READING_LIMIT;
 use oracle::core::packet::BluefinPacket;
 use oracle::record::Xorshift;
 
@@ -21,7 +22,8 @@ pub fn push_packet(datagram: &mut Vec<u8>, kind: u8, field: u16, number: u64, pa
     datagram.extend(payload);
 }
 
-/// At times cuts the datagram, adds a tail, flips a bit of a header or lets a field run too far.
+/// At times cuts the datagram, adds a tail, flips a bit of a header, lets a field run too far, or fills it with empty hellos to about the
+/// reading limit.
 pub fn spoil(datagram: &mut Vec<u8>, rng: &mut Xorshift) {
     let length = datagram.len() as u64;
     match rng.below(12) {
@@ -31,6 +33,7 @@ pub fn spoil(datagram: &mut Vec<u8>, rng: &mut Xorshift) {
             datagram.extend(rng.bytes(more));
         }
         2 => datagram[rng.below(length.min(40)) as usize] ^= 1 << rng.below(8),
+        3 if rng.one_in(100) => datagram.resize(READING_LIMIT - 20 + rng.below(41) as usize, 0),
         _ => {}
     }
 }
@@ -100,11 +103,15 @@ pub fn by_many_calls(
     room
 }
 
-/// The published Rust's way: the packets listed, each asked about, and the class of each answer; then the listing's own.
+/// The published Rust's way: the packets listed, each asked about, and the class of each answer; then the listing's own. It is not asked
+/// above the reading limit, where document 02 says 11.
 pub fn by_the_rust(
     datagram: &[u8],
     mut call: impl FnMut(BluefinPacket) -> Option<u64>,
 ) -> (Vec<u64>, Vec<u64>, u64) {
+    if datagram.len() > READING_LIMIT {
+        return (Vec::new(), Vec::new(), 11);
+    }
     let mut packets = Vec::new();
     let told = BluefinPacket::from_bytes_into(Bytes::copy_from_slice(datagram), &mut packets);
     let refusal = match told {

@@ -1,7 +1,7 @@
 //! Datagrams parsed by both parsers, and packets written and read alone.
 
 use crate::header::{fields_of, header_of, written};
-use crate::tally::Ours;
+use crate::tally::{not_compared, Ours};
 use bluefin::sys;
 use oracle::components::header::BEFORE;
 use oracle::components::packet;
@@ -90,6 +90,15 @@ impl Ours for Packet {
                 answer.extend(bytes[20..].iter().map(|&b| u64::from(b)));
                 answer
             }
+        }
+    }
+
+    /// Of a datagram above the reading limit both parsers say 11, and nothing is listed.
+    fn refuses(&mut self, question: &Question) -> bool {
+        let answer = self.answer(question);
+        match question.op {
+            PARSE if question.bytes().len() > packet::READING_LIMIT => answer == [11, 0, 11, 0],
+            _ => not_compared(answer[0]),
         }
     }
 }
