@@ -1,5 +1,5 @@
--- The second table: a row for each boundary, and for each order of two refusals, that document 01 names and its starred samples leave out.
--- Each row says what a call answers and what it leaves in lent memory; its values are written from the paper, whose words stand over it.
+-- The second table: a row for each boundary, and for each order of two refusals, that documents 01 and 02 name and 01's starred samples leave out.
+-- Each row says what a call answers and what it leaves in lent memory; its values are written from the papers, whose words stand over it.
 -- proofs/Boundaries.antt proves the table by one statement.
 use Rattle.samples.specs.HeaderRows.{HeaderRows}
 use Rattle.samples.specs.PacketRows.{PacketRows, ParserRows}
