@@ -1,7 +1,8 @@
 /*
  * The numbers of include/bluefin.h against the archive: each field of each struct holds another value than its neighbours, and each packet
  * type, refusal, close state and host kind is met by its name. So two fields or two names that are exchanged, in the archive or in the
- * header, are seen; and so is another longest datagram than the header names. It prints nothing, and ends with a failure where a number is off.
+ * header, are seen; and so is another longest datagram than the header names. It prints nothing, and ends with a failure where a number
+ * is off.
  */
 #include <string.h>
 
@@ -72,7 +73,7 @@ static void listing(void) {
     EXPECT(told.packets == 0 && told.cursor == 0 && told.refusal == BLUEFIN_PAYLOAD_MISSING);
 }
 
-/* The longest datagram, with as many packets as one can have, and a byte more. */
+/* As many packets as a datagram can have, 3,274 acks and a data packet, to a byte past the longest one and to its very end. */
 static void longest(void) {
     static uint8_t datagram[65508], answers[3275], store[2 * 8];
     static uint32_t index[6550], lengths[1];
@@ -86,10 +87,11 @@ static void longest(void) {
 #define RECEIVE_ACKS(length) bluefin_receive_acks(bluefin_window_new(0), cells, 1, datagram, length, index, 6550, answers, 3275)
 
     datagram[65482] = 8;
+    index[0] = 9;
     EXPECT(bluefin_from_bytes(datagram, 65508, index, 6550).refusal == BLUEFIN_OUT_OF_RANGE);
     EXPECT(bluefin_from_bytes_into(datagram, 65508, index, 6550).refusal == BLUEFIN_OUT_OF_RANGE);
     EXPECT(RECEIVE(65508).refusal == BLUEFIN_OUT_OF_RANGE && RECEIVE_ACKS(65508).refusal == BLUEFIN_OUT_OF_RANGE);
-    EXPECT(index[0] == 0 && index[1] == 0 && index[2] == 0 && !marks[0]);
+    EXPECT(index[0] == 9 && !marks[0]);
 
     datagram[65482] = 7;
     EXPECT(bluefin_from_bytes(datagram, 65507, index, 6549).refusal == BLUEFIN_BUFFER_SHORT);

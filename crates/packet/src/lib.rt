@@ -1,5 +1,5 @@
 // A packet is a header beside its payload, and a datagram is packets end to end.
-// Ports core/packet.rs; document 01, "From a datagram to packets" and "The header, last leaf".
+// Ports core/packet.rs; document 01, "From a datagram to packets" and "The header, last leaf"; document 02 §1.
 // Proved: what each call says and leaves in lent memory is the definition's, on every input; written packets are read back (proofs/Trip.antt).
 use header::BluefinHeader;
 use header::HeaderRead;
