@@ -1,0 +1,3 @@
+pub mod Signed
+pub mod Laws
+pub mod Exact

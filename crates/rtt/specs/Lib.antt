@@ -1,0 +1,2 @@
+pub mod Rtt
+pub mod Exact
