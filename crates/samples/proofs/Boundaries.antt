@@ -7,6 +7,7 @@ use Rattle.samples.proofs.RingRows.{ring-rows, ack-rows}
 use Rattle.samples.proofs.WindowRows.{insert-rows, range-rows, window-consume-rows}
 use Rattle.samples.proofs.BufferRows.{new-rows, start-rows, accept-rows, peek-rows, consume-rows, consume-bytes-rows}
 use Rattle.samples.proofs.CloseRows.{close-rows, fin-rows, hello-rows}
+use Rattle.samples.proofs.RttRows.{sample-rows, wait-rows, exact-rows}
 use Rattle.samples.proofs.ReceiveRows.{receive-rows, receive-acks-rows}
 
 pub boundaries : Boundaries
@@ -31,6 +32,9 @@ boundaries = record {
   close = close-rows;
   fin = fin-rows;
   hello = hello-rows;
+  sample = sample-rows;
+  wait-time = wait-rows;
+  exact = exact-rows;
   receive = receive-rows;
   receive-acks = receive-acks-rows;
 }

@@ -6,5 +6,6 @@ pub mod RingRows
 pub mod WindowRows
 pub mod BufferRows
 pub mod CloseRows
+pub mod RttRows
 pub mod ReceiveRows
 pub mod Boundaries

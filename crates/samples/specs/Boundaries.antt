@@ -10,6 +10,7 @@ use Rattle.samples.specs.WindowRows.{InsertRows, RangeRows, WindowConsum
 use Rattle.samples.specs.BufferRows.{NewRows, StartRows, AcceptRows, PeekRows}
 use Rattle.samples.specs.ReadRows.{ConsumeRows, ConsumeBytesRows}
 use Rattle.samples.specs.CloseRows.{CloseRows, FinRows, HelloRows}
+use Rattle.samples.specs.RttRows.{SampleRows, WaitRows, ExactRows}
 use Rattle.samples.specs.ReceiveRows.{ReceiveRows, ReceiveAcksRows}
 
 pub record Boundaries : Type 0 where
@@ -38,6 +39,10 @@ pub record Boundaries : Type 0 where
   pub close : CloseRows
   pub fin : FinRows
   pub hello : HelloRows
+  -- the waiting time
+  pub sample : SampleRows
+  pub wait-time : WaitRows
+  pub exact : ExactRows
   -- a whole datagram by one call
   pub receive : ReceiveRows
   pub receive-acks : ReceiveAcksRows

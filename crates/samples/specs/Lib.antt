@@ -9,5 +9,6 @@ pub mod WindowRows
 pub mod BufferRows
 pub mod ReadRows
 pub mod CloseRows
+pub mod RttRows
 pub mod ReceiveRows
 pub mod Boundaries
