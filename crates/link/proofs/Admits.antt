@@ -16,6 +16,8 @@ admits = record {
   peeks = λ l. tt;
   consumes = λ l. tt;
   reserves = λ l. tt;
+  samples = λ l r. tt;
+  waits = λ l. tt;
   packs = λ l src dst out before after. absurd (let z : _≡_ {A = ℕ} 0 1 = cc in omega arith);
   packsNone = λ l src dst out none after. none;
   arrives = λ l parser datagram index packets made among. (made, among);

@@ -15,7 +15,8 @@ use Rattle.ordered_bytes.specs.Buffer.{view}
 use Rattle.ordered_bytes.specs.declared.OrderedBytes.{OrderedBytes}
 use Rattle.ordered_bytes.proofs.Reading.{Dry, weight}
 use Rattle.window.specs.Window.{member}
-use Rattle.link.specs.Demand3.{Link, Memory, Call, on-sender, on-receiver, on-window, consume-window, fresh, step, run, refusals, Ack, In, MadeEarlier, Fair, Fairly, Premises}
+use Rattle.rtt.proofs.Laws.{fresh-well-formed}
+use Rattle.link.specs.Demand3.{Link, Memory, Call, on-sender, on-receiver, on-window, on-trips, consume-window, fresh, step, run, refusals, Ack, In, MadeEarlier, Fair, Fairly, Premises}
 use Rattle.link.specs.Demand3.{Start, Made, ToEmpty, Made-in, Delivers, Acknowledges, Demand3}
 use Rattle.link.proofs.Invariant.{Below, Keeps}
 use Rattle.link.proofs.All.{all-in}
@@ -25,6 +26,7 @@ use Rattle.link.proofs.Covered.{longest, longest-covered, longest-most,
 use Rattle.link.proofs.Sender.{made-at, made-earlier-at, made-is, sender-begins, sender-does}
 use Rattle.link.proofs.Receiver.{Numbered, receiver-begins, receiver-extends, receiver-does, emptied, reads-reach}
 use Rattle.link.proofs.Window.{window-begins, window-extends, window-does, expects-within, consume-first}
+use Rattle.link.proofs.Trips.{trips-does}
 
 -- ---- the invariant holds of every link reached
 
@@ -35,6 +37,7 @@ begins s w o m calls p = record {
   sender = sender-begins s w o m (omega (arith, p .start));
   receiver = receiver-begins s w o m [] (p .new);
   acked = window-extends (omega arith) (window-begins s w o m);
+  trips = fresh-well-formed;
 }
 
 at-length : (ps : List (List ℕ)) (i : ℕ) (p : List ℕ) → getElem? ps i ≡ some p → i < length ps
@@ -63,7 +66,7 @@ does : {s : ℕ} (l : Link) (c : Call) → Keeps s l → Fair l c → Does s l c
 does l (on-sender c) v f =
     let d = sender-does l c (v .sender) f in
     record {
-      keeps = record { payloads = v .payloads ++ d .more; gone = v .gone; sender = d .keeps; receiver = receiver-extends (d .more) (v .receiver); acked = v .acked };
+      keeps = record { payloads = v .payloads ++ d .more; gone = v .gone; sender = d .keeps; receiver = receiver-extends (d .more) (v .receiver); acked = v .acked; trips = v .trips };
       never12 = d .never12;
     }
 does l (on-receiver c) v f =
@@ -76,13 +79,20 @@ does l (on-receiver c) v f =
         sender = v .sender;
         receiver = later .keeps;
         acked = window-extends (omega (arith, later .up)) (v .acked);
+        trips = v .trips;
       };
       never12 = d .never12;
     }
 does l (on-window c) v f =
     let d = window-does l c (v .acked) (ack-within v) f in
     record {
-      keeps = record { payloads = v .payloads; gone = v .gone; sender = v .sender; receiver = v .receiver; acked = d .keeps };
+      keeps = record { payloads = v .payloads; gone = v .gone; sender = v .sender; receiver = v .receiver; acked = d .keeps; trips = v .trips };
+      never12 = d .never12;
+    }
+does l (on-trips c) v f =
+    let d = trips-does (l .trips) c (v .trips) in
+    record {
+      keeps = record { payloads = v .payloads; gone = v .gone; sender = v .sender; receiver = v .receiver; acked = v .acked; trips = d .keeps };
       never12 = d .never12;
     }
 

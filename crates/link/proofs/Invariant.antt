@@ -13,6 +13,7 @@ use Rattle.writer.specs.Packing.{payloadSize, sum}
 use Rattle.ordered_bytes.specs.Receiver.{isHeld, placeAt}
 use Rattle.ordered_bytes.specs.Buffer as buffer
 use Rattle.window.specs.Window as window
+use Rattle.rtt.specs.Rtt as rtt
 use Rattle.link.specs.Demand3.{SenderSide, Ack, ReceiverSide, WindowSide, Link, All}
 
 -- a packet's number and payload: what "same number, same payload" speaks of
@@ -66,3 +67,4 @@ pub record Keeps (s : ℕ) (l : Link) : Type 0 where
   pub sender : SenderKeeps s payloads (l .sender)
   pub receiver : ReceiverKeeps s payloads gone (l .receiver)
   pub acked : WindowKeeps s (s + gone) (l .acked)
+  pub trips : rtt.wellFormed (l .trips) ≡ true

@@ -4,6 +4,7 @@ pub mod Invariant
 pub mod Sender
 pub mod Receiver
 pub mod Window
+pub mod Trips
 pub mod Covered
 pub mod Wrote
 pub mod Demand3

@@ -19,8 +19,10 @@ use Rattle.ordered_bytes.specs.Buffer as buffer
 use Rattle.ordered_bytes.specs.Calls.{creating, accepting, peeking, consuming, consumingBytes}
 use Rattle.ordered_bytes.specs.declared.OrderedBytes.{OrderedBytes}
 use Rattle.window.specs.Window as window
-use Rattle.link.specs.Demand3.{Link, Memory, Call, enqueue, pack, reserve, arrive, read, read-pieces, peek, insert, insert-range, consume-window, on-sender, on-receiver, on-window}
-use Rattle.link.specs.Demand3.{from-bytes, from-bytes-into, fresh, step, run, packingOf, Fairly, Premises, All, In, dataOf, acceptedAll, MadeEarlier, acceptRefusals, refusals, Accepted}
+use Rattle.rtt.specs.Rtt.{sampling, waiting}
+use Rattle.link.specs.Demand3.{Link, Memory, Call, enqueue, pack, reserve, arrive, read, read-pieces, peek, insert, insert-range, consume-window, sample, wait-time}
+use Rattle.link.specs.Demand3.{on-sender, on-receiver, on-window, on-trips, from-bytes, from-bytes-into, fresh, step, run, packingOf, Fairly, Premises, All, In, dataOf}
+use Rattle.link.specs.Demand3.{acceptedAll, MadeEarlier, acceptRefusals, refusals, Accepted}
 use Rattle.link.proofs.Runs.{fairly-append, fairly-before}
 
 -- ---- the run
@@ -83,10 +85,16 @@ reading = map on-receiver (read 5 (replicate 8 0) ∷ read 9 (replicate 8 0) ∷
 abbrev pub entering : List Call
 entering = map on-window (insert-range s 2 ∷ insert (s + 1) ∷ insert (s + 2) ∷ [])
 
--- a FIN's number, a packing that has nothing to pack, and a packet that comes again
+-- the second trip is too long
+abbrev pub measuring : List Call
+measuring = map on-trips (wait-time ∷ sample 80 ∷ sample 60000001 ∷ sample 90 ∷ wait-time ∷ [])
+
+-- trips, a FIN's number, a packing that has nothing to pack, and a packet that comes again
 abbrev pub closing : List Call
 closing =
-    map on-sender (reserve ∷ pack 1 2 [] ∷ []) ++ (on-receiver (arrive from-bytes-into (joined (packetA ∷ [])) (9 ∷ 9 ∷ []) (packetA ∷ [])) ∷ [])
+    measuring
+    ++ map on-sender (reserve ∷ pack 1 2 [] ∷ [])
+    ++ (on-receiver (arrive from-bytes-into (joined (packetA ∷ [])) (9 ∷ 9 ∷ []) (packetA ∷ [])) ∷ [])
 
 abbrev pub last : Call
 last = on-receiver (read 1 (replicate 8 0))
@@ -169,6 +177,7 @@ pub record Computed : Type 0 where
       ++ ((0 ∷ []) ∷ (10 ∷ []) ∷ (0 ∷ []) ∷ [])
       ++ ((0 ∷ []) ∷ (7 ∷ []) ∷ (0 ∷ []) ∷ [])
       ++ ((0 ∷ []) ∷ [])
+      ++ ((0 ∷ []) ∷ (0 ∷ []) ∷ (14 ∷ []) ∷ (0 ∷ []) ∷ (0 ∷ []) ∷ [])
       ++ ((0 ∷ []) ∷ (0 ∷ []) ∷ (0 ∷ 5 ∷ []) ∷ [])
       ++ ((8 ∷ []) ∷ [])
   pub atHole : In 8 (refusals (run first beforeHole) readAtHole)
@@ -192,7 +201,7 @@ pub computed : Computed
 unfolding run trace Fairly All In dataOf acceptedAll acceptRefusals Accepted headerAt headerBytes joined readingLimit payloadMissing walkBy packetsOf flat parsed packetAt listed payloadSize byteLimit
     cut numbered removal shortened sum packing receiver.walk receiver.consumed receiver.payloads receiver.numbersFit buffer.view buffer.allWithin buffer.wellFormed
     creating accepting peeking consuming consumingBytes flatten window.member window.rising window.allHoldable window.wellFormed window.place window.numbers
-    window.insertPacketNumber window.beforeHeld window.insertRange window.runLength window.consume
+    window.insertPacketNumber window.beforeHeld window.insertRange window.runLength window.consume sampling waiting
 computed = record {
   new = refl;
   sends = (tt, (unreserved, (unreserved, (tt, (unreserved, (tt, (unreserved, tt)))))));
@@ -210,7 +219,7 @@ computed = record {
     ),
   );
   consumes = (tt, tt);
-  closes = (tt, (λ e. refl, (((itself packetA (inl refl), tt), (inl refl, tt)), tt)));
+  closes = (tt, (tt, (tt, (tt, (tt, (tt, (λ e. refl, (((itself packetA (inl refl), tt), (inl refl, tt)), tt))))))));
   ends = (tt, tt);
   refused = refl;
   atHole = inl refl;

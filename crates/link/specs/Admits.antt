@@ -8,8 +8,8 @@ use Rattle.refusal.specs.Said.{answers}
 use Rattle.packet.specs.Packet.{Packet}
 use Rattle.ordered_bytes.specs.Calls.{creating}
 use Rattle.ordered_bytes.specs.declared.OrderedBytes.{OrderedBytes}
-use Rattle.link.specs.Demand3.{Link, Ack, Memory, Parser, Call, enqueue, pack, reserve, arrive, read, read-pieces, peek, insert, insert-range, consume-window}
-use Rattle.link.specs.Demand3.{on-sender, on-receiver, on-window, fresh, run, callSender, indexedOn, In, All, MadeEarlier, Fair, Fairly, Premises, refusals}
+use Rattle.link.specs.Demand3.{Link, Ack, Memory, Parser, Call, enqueue, pack, reserve, arrive, read, read-pieces, peek, insert, insert-range, consume-window, sample, wait-time}
+use Rattle.link.specs.Demand3.{on-sender, on-receiver, on-window, on-trips, fresh, run, callSender, indexedOn, In, All, MadeEarlier, Fair, Fairly, Premises, refusals}
 use Rattle.link.specs.Demand3.{Accepted, Covered, ToEmpty}
 
 pub record Admits : Type 0 where
@@ -23,6 +23,9 @@ pub record Admits : Type 0 where
   -- the window may be consumed, and a FIN's number reserved, at any time
   pub consumes : (l : Link) → Fair l (on-window consume-window)
   pub reserves : (l : Link) → Fair l (on-sender reserve)
+  -- any trip sampled, and the wait asked, at any time
+  pub samples : (l : Link) (r : ℕ) → Fair l (on-trips (sample r))
+  pub waits : (l : Link) → Fair l (on-trips wait-time)
   -- "no data packed after a FIN's number was reserved": before it any packing, after it one that makes no packet
   pub packs : (l : Link) (src dst : ℕ) (out : List ℕ) → l .sender .closing ≡ false → Fair l (on-sender (pack src dst out))
   pub packsNone : (l : Link) (src dst : ℕ) (out : List ℕ) → callSender (l .sender) (pack src dst out) .left .made ≡ l .sender .made

@@ -22,6 +22,8 @@ use Rattle.ordered_bytes.specs.Calls.{Acceptance, creating, accepting, peeking,
 use Rattle.ordered_bytes.specs.declared.OrderedBytes.{OrderedBytes}
 use Rattle.window.specs.Window.{Outcome, window, member, insertPacketNumber, insertRange, consume, beforeHeld, numbers}
 use Rattle.window.specs.declared.SlidingWindow.{SlidingWindow}
+use Rattle.rtt.specs.Rtt as rtt
+use Rattle.rtt.specs.declared.RttEstimator.{RttEstimator}
 
 -- ---- the link: what the calls hold, and below it the history
 
@@ -97,15 +99,20 @@ pub record Link : Type 0 where
   pub sender : SenderSide
   pub receiver : ReceiverSide
   pub acked : WindowSide
+  -- what the trips measured so far come to (document 02, §2)
+  pub trips : RttEstimator
 
 abbrev pub withSender : SenderSide → Link → Link
-withSender d l = record { sender = d; receiver = l .receiver; acked = l .acked }
+withSender d l = record { sender = d; receiver = l .receiver; acked = l .acked; trips = l .trips }
 
 abbrev pub withReceiver : ReceiverSide → Link → Link
-withReceiver d l = record { sender = l .sender; receiver = d; acked = l .acked }
+withReceiver d l = record { sender = l .sender; receiver = d; acked = l .acked; trips = l .trips }
 
 abbrev pub withWindow : WindowSide → Link → Link
-withWindow d l = record { sender = l .sender; receiver = l .receiver; acked = d }
+withWindow d l = record { sender = l .sender; receiver = l .receiver; acked = d; trips = l .trips }
+
+abbrev pub withTrips : RttEstimator → Link → Link
+withTrips t l = record { sender = l .sender; receiver = l .receiver; acked = l .acked; trips = t }
 
 -- the lent memory of a fresh link: the receive buffer's three lists, and the window's cells
 pub record Memory : Type 0 where
@@ -128,6 +135,7 @@ fresh s w o m =
         counted = 0;
       };
       acked = record { state = window s 0; cells = m .cells; entered = []; expects = s };
+      trips = rtt.fresh;
     }
 
 -- ---- the calls by side, each with its arguments and the lent lists that it is given
@@ -157,10 +165,16 @@ pub data WindowCall : Type 0 where
   insert-range : ℕ → ℕ → WindowCall
   consume-window : WindowCall
 
+pub data TripsCall : Type 0 where
+  -- microseconds
+  sample : ℕ → TripsCall
+  wait-time : TripsCall
+
 pub data Call : Type 0 where
   on-sender : SenderCall → Call
   on-receiver : ReceiverCall → Call
   on-window : WindowCall → Call
+  on-trips : TripsCall → Call
 
 -- what a call on a side comes to: what it, or each of the calls that it is made of, was refused with, in order (0 for one that was not), and the side that it leaves
 pub record Called (Side : Type 0) : Type 0 where
@@ -291,17 +305,25 @@ callWindow d (insert-range base count) =
     let o = insertRange (d .state) (d .cells) base count in record { refusals = refusalIn (o .0) ∷ []; left = rangeInsertedBy o base count d }
 callWindow d consume-window = let o = consume (d .state) (d .cells) in record { refusals = refusalIn (o .0) ∷ []; left = consumedBy o d }
 
+-- ---- the estimator's calls
+
+abbrev pub callTrips : RttEstimator → TripsCall → Called RttEstimator
+callTrips t (sample r) = let o = rtt.sampling t r in record { refusals = refusalIn (o .0) ∷ []; left = o .1 }
+callTrips t wait-time = record { refusals = refusalIn (rtt.waiting t) ∷ []; left = t }
+
 -- ---- a call on the link, and a list of them
 
 abbrev pub refusals : Link → Call → List ℕ
 refusals l (on-sender c) = callSender (l .sender) c .refusals
 refusals l (on-receiver c) = callReceiver (l .receiver) c .refusals
 refusals l (on-window c) = callWindow (l .acked) c .refusals
+refusals l (on-trips c) = callTrips (l .trips) c .refusals
 
 abbrev pub step : Link → Call → Link
 step l (on-sender c) = withSender (callSender (l .sender) c .left) l
 step l (on-receiver c) = withReceiver (callReceiver (l .receiver) c .left) l
 step l (on-window c) = withWindow (callWindow (l .acked) c .left) l
+step l (on-trips c) = withTrips (callTrips (l .trips) c .left) l
 
 unfoldable pub run : Link → List Call → Link
 run l [] = l
@@ -367,10 +389,15 @@ FairWindow l (insert n) = Acked l n
 FairWindow l (insert-range base count) = In (record { base = base; count = count }) (l .receiver .acks)
 FairWindow l consume-window = Unit
 
+abbrev pub FairTrips : Link → TripsCall → Type 0
+FairTrips l (sample r) = Unit
+FairTrips l wait-time = Unit
+
 abbrev pub Fair : Link → Call → Type 0
 Fair l (on-sender c) = FairSender l c
 Fair l (on-receiver c) = FairReceiver l c
 Fair l (on-window c) = FairWindow l c
+Fair l (on-trips c) = FairTrips l c
 
 unfoldable pub Fairly : Link → List Call → Type 0
 Fairly l [] = Unit
