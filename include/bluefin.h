@@ -25,8 +25,8 @@
 #include <stddef.h>
 #include <stdint.h>
 
-/* Rises with every change of the binary interface: a struct, an argument, a number. */
-#define BLUEFIN_VERSION 1
+/* Rises with every change of the binary interface: a struct, an argument, a number, a new call. With 2 came the waiting time, and refusal 14. */
+#define BLUEFIN_VERSION 2
 
 #ifdef __cplusplus
 #define BLUEFIN_SIZE(type, size) static_assert(sizeof(type) == size && alignof(type) == 8, #type)
@@ -50,7 +50,8 @@ enum {
     BLUEFIN_BUFFER_SHORT = 10,   /* lent memory too small */
     BLUEFIN_OUT_OF_RANGE = 11,   /* a field, a payload or a datagram too large */
     BLUEFIN_MALFORMED = 12,      /* a state that no call leaves */
-    BLUEFIN_PACKETS_HELD = 13    /* the start is set while packets are held */
+    BLUEFIN_PACKETS_HELD = 13,   /* the start is set while packets are held */
+    BLUEFIN_SAMPLE_TOO_LONG = 14 /* a round trip above 60,000,000 microseconds */
 };
 
 /* ---- the header, 20 bytes on the wire */
@@ -405,6 +406,40 @@ bluefin_close_after bluefin_close_mark_closed(bluefin_close_record c);
 
 /* Takes the FIN-ACK that is owed: its FIN's number where `was_pending`, else 0. Refusal: 12. */
 bluefin_fin_ack_taken bluefin_close_take_pending_fin_ack_send(bluefin_close_record c);
+
+/* ---- how long to wait before sending again */
+
+/*
+ * What the round trips measured so far come to, by value: nothing is lent. RFC 6298's SRTT in eighths of a microsecond, at most 480,000,000,
+ * and its RTTVAR in quarters, at most 240,000,000; above these a call refuses with 12, sampled or not.
+ */
+typedef struct {
+    uint64_t smoothed;
+    uint64_t variation;
+    bool sampled; /* whether a sample has come */
+} bluefin_rtt;
+BLUEFIN_SIZE(bluefin_rtt, 24);
+
+typedef struct {
+    bluefin_rtt estimator;
+    uint8_t refusal;
+} bluefin_sampled;
+BLUEFIN_SIZE(bluefin_sampled, 32);
+
+typedef struct {
+    uint64_t micros;
+    uint8_t refusal;
+} bluefin_wait;
+BLUEFIN_SIZE(bluefin_wait, 16);
+
+/* An estimator before any sample. */
+bluefin_rtt bluefin_rtt_new(void);
+
+/* A round trip that took so many microseconds. Refusals: 14 (above 60,000,000), 12. */
+bluefin_sampled bluefin_rtt_sample(bluefin_rtt t, uint64_t micros);
+
+/* The wait in microseconds: 1,000,000 to 60,000,000, and 1,000,000 before any sample. Refusal: 12. */
+bluefin_wait bluefin_rtt_wait_time(bluefin_rtt t);
 
 /* ---- opening */
 

@@ -256,6 +256,37 @@ static void closing(void) {
     EXPECT(taken.number == 0 && !taken.was_pending && taken.refusal == BLUEFIN_MALFORMED);
 }
 
+static bool same_rtt(bluefin_rtt t, uint64_t smoothed, uint64_t variation, bool sampled) {
+    return t.smoothed == smoothed && t.variation == variation && t.sampled == sampled;
+}
+
+static void waiting(void) {
+    bluefin_rtt t = bluefin_rtt_new();
+    EXPECT(same_rtt(t, 0, 0, false));
+    bluefin_wait wait = bluefin_rtt_wait_time(t);
+    EXPECT(wait.micros == 1000000 && wait.refusal == 0);
+    bluefin_sampled sampled = bluefin_rtt_sample(t, 60000000);
+    EXPECT(sampled.refusal == 0);
+    EXPECT(same_rtt(sampled.estimator, 480000000, 120000000, true));
+    sampled = bluefin_rtt_sample(bluefin_rtt_sample(t, 2000000).estimator, 1000000);
+    EXPECT(sampled.refusal == 0);
+    EXPECT(same_rtt(sampled.estimator, 15000000, 4000000, true));
+    wait = bluefin_rtt_wait_time(sampled.estimator);
+    EXPECT(wait.micros == 5875000 && wait.refusal == 0);
+
+    t = sampled.estimator;
+    sampled = bluefin_rtt_sample(t, 60000001);
+    EXPECT(sampled.refusal == BLUEFIN_SAMPLE_TOO_LONG);
+    EXPECT(same_rtt(sampled.estimator, 15000000, 4000000, true));
+    t.variation = 240000001;
+    sampled = bluefin_rtt_sample(t, 60000000);
+    EXPECT(sampled.refusal == BLUEFIN_MALFORMED);
+    EXPECT(same_rtt(sampled.estimator, 15000000, 240000001, true));
+    EXPECT(bluefin_rtt_sample(t, 60000001).refusal == BLUEFIN_SAMPLE_TOO_LONG);
+    wait = bluefin_rtt_wait_time(t);
+    EXPECT(wait.micros == 0 && wait.refusal == BLUEFIN_MALFORMED);
+}
+
 static void hosts(void) {
     static const bluefin_header client_hello = {.source_connection_id = 1, .type_field = BLUEFIN_CLIENT_HELLO};
     static const bluefin_header server_hello = {.source_connection_id = 1, .destination_connection_id = 2, .type_field = BLUEFIN_SERVER_HELLO};
@@ -276,6 +307,7 @@ int main(void) {
     rings();
     packing();
     closing();
+    waiting();
     hosts();
     return 0;
 }

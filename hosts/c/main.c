@@ -1,8 +1,8 @@
 /*
  * A sender and a receiver in one program: packs a queue, parses the datagram, accepts its packets out of order, reads until nothing is left,
- * sends acks back and consumes the window; then the same by one call for a datagram, and a FIN in a datagram of its own. It checks each
- * answer, prints what it saw, and ends with a failure where anything is off. examples/link.rs of hosts/rust is the same program;
- * hosts/expected is what both print.
+ * sends acks back and consumes the window; then the same by one call for a datagram, how long to wait after two round trips, and a FIN in a
+ * datagram of its own. It checks each answer, prints what it saw, and ends with a failure where anything is off. examples/link.rs of
+ * hosts/rust is the same program; hosts/expected is what both print.
  */
 #include <stdio.h>
 #include <string.h>
@@ -85,6 +85,10 @@ AT(bluefin_close_after, refusal, 32);
 AT(bluefin_fin_ack_taken, number, 32);
 AT(bluefin_fin_ack_taken, was_pending, 40);
 AT(bluefin_fin_ack_taken, refusal, 41);
+AT(bluefin_rtt, variation, 8);
+AT(bluefin_rtt, sampled, 16);
+AT(bluefin_sampled, refusal, 24);
+AT(bluefin_wait, refusal, 8);
 
 /* ---- the two ends */
 
@@ -210,6 +214,22 @@ static void acknowledge(bluefin_ring ring, bluefin_ack *records) {
            (unsigned long long)run.length);
 }
 
+/* How long the sender waits for an ack before it sends again: before any trip, and after two. */
+static void measure(void) {
+    bluefin_rtt trips = bluefin_rtt_new();
+    uint64_t before = bluefin_rtt_wait_time(trips).micros;
+    static const uint64_t took[2] = {900000, 700000};
+    for (size_t i = 0; i < 2; i++) {
+        bluefin_sampled sampled = bluefin_rtt_sample(trips, took[i]);
+        EXPECT(sampled.refusal == 0);
+        trips = sampled.estimator;
+    }
+    bluefin_wait wait = bluefin_rtt_wait_time(trips);
+    EXPECT(wait.refusal == 0);
+    printf("wait %llu microseconds, and %llu after trips of %llu and %llu\n", (unsigned long long)before, (unsigned long long)wait.micros,
+           (unsigned long long)took[0], (unsigned long long)took[1]);
+}
+
 /* The FIN takes the number after the data's, and goes alone in its datagram: the "own-datagram rule" of worker/writer.rs. */
 static bluefin_close_record send_fin(uint64_t next_packet_num, uint8_t fin[20]) {
     bluefin_reserved reserved = bluefin_reserve_close_packet_num(next_packet_num);
@@ -271,6 +291,7 @@ int main(void) {
     printf("received %zu packets by one call\n", received.packets);
     acknowledge(read_all(&b, records), records);
 
+    measure();
     uint8_t fin[20];
     bluefin_close_record sender = send_fin(data.next_packet_num, fin);
     close_both(sender, fin, b.small.front_number);

@@ -10,3 +10,4 @@ mod hello;
 mod packets;
 mod ring;
 mod sending;
+mod waiting;

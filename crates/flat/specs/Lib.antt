@@ -8,3 +8,4 @@ pub mod Ring
 pub mod Datagrams
 pub mod Closing
 pub mod Hello
+pub mod Waiting

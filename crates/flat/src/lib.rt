@@ -10,3 +10,4 @@ pub mod hello;
 pub mod packets;
 pub mod ring;
 pub mod sending;
+pub mod waiting;

@@ -1,14 +1,15 @@
 //! A sender and a receiver in one program: packs a queue, parses the datagram, accepts its packets out of order, reads until nothing
-//! is left, sends acks back and consumes the window; then the same by one call for a datagram, and a FIN in a datagram of its own. It
-//! checks each answer, prints what it saw, and panics where anything is off. hosts/c/main.c is the same program; hosts/expected is
-//! what both print.
+//! is left, sends acks back and consumes the window; then the same by one call for a datagram, how long to wait after two round trips,
+//! and a FIN in a datagram of its own. It checks each answer, prints what it saw, and panics where anything is off. hosts/c/main.c is
+//! the same program; hosts/expected is what both print.
 
 use bluefin::{
     consume_data_into, header_deserialise, is_client_ack_packet, is_hello_packet,
     payload_bytes_in_datagram, reserve_close_packet_num, write_fin, write_fin_ack, Ack, AckRing,
     CloseRecord, CloseState, DataPacked, Header, Host, Index, OrderedBytes, PacketType, Refusal,
-    SlidingWindow, PACKED_DATAGRAM,
+    RttEstimator, SlidingWindow, PACKED_DATAGRAM,
 };
+use std::time::Duration;
 
 const SLOTS: usize = 8;
 const WIDTH: usize = 1500;
@@ -108,6 +109,22 @@ fn acknowledge(mut ring: AckRing) {
     );
 }
 
+/// How long the sender waits for an ack before it sends again: before any trip, and after two.
+fn measure() {
+    let mut trips = RttEstimator::new();
+    let before = trips.wait_time().as_micros();
+    let took = [900_000, 700_000];
+    for micros in took {
+        assert_eq!(trips.sample(Duration::from_micros(micros)), Ok(()));
+    }
+    println!(
+        "wait {before} microseconds, and {} after trips of {} and {}",
+        trips.wait_time().as_micros(),
+        took[0],
+        took[1]
+    );
+}
+
 /// The FIN takes the number after the data's, and goes alone in its datagram: the "own-datagram rule" of worker/writer.rs.
 fn send_fin(next_packet_num: u64) -> (CloseRecord, [u8; 20]) {
     let (number, _) = reserve_close_packet_num(next_packet_num).unwrap();
@@ -196,6 +213,7 @@ fn main() {
     println!("received {packets} packets by one call");
     acknowledge(read_all(&mut buffer, &queue));
 
+    measure();
     let (sender, fin) = send_fin(data.next_packet_num);
     close_both(sender, fin, buffer.front_number());
 }

@@ -14,6 +14,7 @@ mod header;
 mod ordered_bytes;
 mod packing;
 mod refusal;
+mod rtt;
 pub mod sys;
 mod window;
 
@@ -27,5 +28,6 @@ pub use packing::{
     write_fin_ack, DataPacked, PACKED_DATAGRAM,
 };
 pub use refusal::{Refusal, RefusedAt};
+pub use rtt::RttEstimator;
 pub use sys::Ack;
 pub use window::{Run, SlidingWindow};

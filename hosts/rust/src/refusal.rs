@@ -2,7 +2,7 @@
 
 use std::fmt;
 
-/// Why a call refused; its number is the C header's and document 01's.
+/// Why a call refused; its number is the C header's and the papers'.
 #[derive(Clone, Copy, Debug, PartialEq, Eq)]
 #[repr(u8)]
 pub enum Refusal {
@@ -32,10 +32,12 @@ pub enum Refusal {
     Malformed = 12,
     /// The start is set while packets are held.
     PacketsHeld = 13,
+    /// A round trip longer than a minute.
+    SampleTooLong = 14,
 }
 
 impl Refusal {
-    const ALL: [Refusal; 13] = [
+    const ALL: [Refusal; 14] = [
         Refusal::Short,
         Refusal::PayloadMissing,
         Refusal::Tail,
@@ -49,9 +51,10 @@ impl Refusal {
         Refusal::OutOfRange,
         Refusal::Malformed,
         Refusal::PacketsHeld,
+        Refusal::SampleTooLong,
     ];
 
-    /// Its number, 1 to 13.
+    /// Its number, 1 to 14.
     pub fn number(self) -> u8 {
         self as u8
     }
@@ -99,10 +102,10 @@ mod tests {
 
     #[test]
     fn numbers_go_there_and_back() {
-        for number in 1..=13 {
+        for number in 1..=14 {
             assert_eq!(Refusal::of(number).map(Refusal::number), Some(number));
         }
-        assert_eq!(Refusal::of(0), None);
+        assert_eq!((Refusal::of(0), Refusal::of(15)), (None, None));
         assert_eq!(Refusal::or(10, ()), Err(Refusal::BufferShort));
     }
 }

@@ -2,7 +2,7 @@
 //! does, and what it must be lent, is said there. The modules beside this one are the safe way to call.
 
 /// The binary interface that this file declares, as the C header counts them.
-pub const VERSION: u32 = 1;
+pub const VERSION: u32 = 2;
 
 macro_rules! c_structs {
     ($($name:ident { $($field:ident: $type:ty),* $(,)? })*) => {
@@ -77,6 +77,9 @@ c_structs! {
     }
     CloseAfter { close: CloseRecord, refusal: u8 }
     FinAckTaken { close: CloseRecord, number: u64, was_pending: bool, refusal: u8 }
+    Rtt { smoothed: u64, variation: u64, sampled: bool }
+    Sampled { estimator: Rtt, refusal: u8 }
+    Wait { micros: u64, refusal: u8 }
 }
 
 extern "C" {
@@ -276,6 +279,10 @@ extern "C" {
     pub fn bluefin_close_mark_closed(c: CloseRecord) -> CloseAfter;
     pub fn bluefin_close_take_pending_fin_ack_send(c: CloseRecord) -> FinAckTaken;
 
+    pub fn bluefin_rtt_new() -> Rtt;
+    pub fn bluefin_rtt_sample(t: Rtt, micros: u64) -> Sampled;
+    pub fn bluefin_rtt_wait_time(t: Rtt) -> Wait;
+
     pub fn bluefin_is_hello_packet(host: u8, header: Header) -> bool;
     pub fn bluefin_is_client_ack_packet(host: u8, header: Header) -> bool;
 }
@@ -328,5 +335,8 @@ mod tests {
             is_received 26, peer_fin_observed 27);
         layout!(CloseAfter, 40, close 0, refusal 32);
         layout!(FinAckTaken, 48, close 0, number 32, was_pending 40, refusal 41);
+        layout!(Rtt, 24, smoothed 0, variation 8, sampled 16);
+        layout!(Sampled, 32, estimator 0, refusal 24);
+        layout!(Wait, 16, micros 0, refusal 8);
     }
 }
