@@ -1,4 +1,5 @@
 //! The published Rust and this library, asked the same at random: answers and memory are compared. `bench/compare` runs it.
+//! The waiting time, which the Rust does not have, is held against its paper.
 //!
 //! Arguments: how many commands in all, ten million if left out, and a seed.
 
@@ -11,6 +12,7 @@ mod net;
 mod packet;
 mod received;
 mod ring;
+mod rtt;
 mod tally;
 mod window;
 mod writer;
@@ -35,7 +37,7 @@ fn main() {
     let tallies = [
         plan.compare::<header::Header>(100),
         plan.compare::<packet::Packet>(160),
-        plan.compare::<window::Window>(220),
+        plan.compare::<window::Window>(200),
         plan.compare::<ring::Ring>(100),
         plan.compare::<buffer::Buffer>(200),
         plan.compare::<writer::Writer>(20),
@@ -44,6 +46,7 @@ fn main() {
         plan.compare::<net::Net>(20),
         received::data(&plan, 50),
         received::acks(&plan, 60),
+        rtt::steps(&plan, 20),
     ];
     let mut all = Tally::named("all");
     for tally in &tallies {

@@ -9,6 +9,7 @@ mod headers;
 mod inputs;
 mod packing;
 mod parsing;
+mod rtt;
 mod table;
 mod window;
 
@@ -35,6 +36,7 @@ fn main() {
     packing::rows(&mut table);
     buffer::rows(&mut table);
     window::rows(&mut table);
+    rtt::rows(&mut table);
     println!(
         "Processor: {}. The best of {milliseconds} ms of rounds of each row.\n",
         processor()
