@@ -1,3 +1,4 @@
 pub mod Signed
 pub mod Laws
 pub mod Exact
+pub mod Consequences
