@@ -160,7 +160,8 @@ trace l [] = []
 trace l (c ∷ cs) = refusals l c ∷ trace (step l c) cs
 
 -- each part keeps the premises, and both reads that took packets give an ack; part by part, what each call is refused with; the read at the hole says 8, with
--- two packets accepted behind it; all eight bytes are queued and covered; three packets are counted; the last read says 8; packet A is the first made
+-- two packets accepted behind it; all eight bytes are queued and covered; three packets are counted; the trips come to S = 650 and V = 130;
+-- the last read says 8; packet A is the first made
 pub record Computed : Type 0 where
   pub new : creating 1500 s (memory .marks) (memory .lengths) (memory .store) .said ≡ answers state
   pub sends : Fairly first sending
@@ -187,6 +188,7 @@ pub record Computed : Type 0 where
   pub empty : In 8 (refusals (run first beforeLast) last)
   pub counted : consumed .receiver .counted ≡ 3
   pub entered : consumed .acked .entered ≡ entered
+  pub measured : run first beforeLast .trips ≡ record { smoothed = 650; variation = 130; sampled = true }
   pub packs : output-A .0 ≡ answers packed-A
   pub makes : packing-A .sender .made ≡ []
   pub made : step packing-A (on-sender (pack 1 2 (replicate 24 0))) .sender .made ≡ packetA ∷ []
@@ -237,6 +239,7 @@ computed = record {
   empty = inl refl;
   counted = refl;
   entered = refl;
+  measured = refl;
   packs = refl;
   makes = refl;
   made = refl;
