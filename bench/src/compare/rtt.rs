@@ -103,17 +103,15 @@ fn sampled(t: sys::Rtt, sample: u64) -> sys::Sampled {
 }
 
 fn wait_time(t: sys::Rtt) -> sys::Wait {
-    let micros = match t.sampled {
-        true => (t.smoothed / 8 + t.variation.max(1_000)).clamp(1_000_000, 60_000_000),
-        false => 1_000_000,
+    let (micros, refusal) = match (malformed(t), t.sampled) {
+        (true, _) => (0, 12),
+        (false, false) => (1_000_000, 0),
+        (false, true) => {
+            let sum = t.smoothed / 8 + t.variation.max(1_000);
+            (sum.clamp(1_000_000, 60_000_000), 0)
+        }
     };
-    match malformed(t) {
-        true => sys::Wait {
-            micros: 0,
-            refusal: 12,
-        },
-        false => sys::Wait { micros, refusal: 0 },
-    }
+    sys::Wait { micros, refusal }
 }
 
 /// A number up to a bound, often a small one; at times about the bound, or any at all.
