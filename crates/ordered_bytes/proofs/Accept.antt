@@ -3,6 +3,7 @@
 use Prim.Native.Nat.{ℕ, _-_, _≤_, _<_}
 use mathlib.Core.Path.{_≡_}
 use mathlib.Core.Bool.{true, false}
+use mathlib.Core.Option.{none}
 use mathlib.Core.List.{List, [], _∷_}
 use lib.ListN.{length, getD}
 use lib.Dec.{ltb, eqb}
@@ -10,7 +11,7 @@ use borrow.Author.Tests.{lt-ltb, le-ltb, le-leb, lt-leb}
 use Rattle.refusal.specs.Said.{answers, refuses, checks}
 use Rattle.lists.specs.Numbers.{largest}
 use Rattle.ordered_bytes.specs.Buffer.{Buffer, slots, width, slotAt, wellFormed, stored}
-use Rattle.ordered_bytes.specs.Calls.{Acceptance, accepting}
+use Rattle.ordered_bytes.specs.Calls.{Acceptance, ackWith, accepting}
 use Rattle.ordered_bytes.proofs.View.{length-held}
 use Rattle.ordered_bytes.proofs.Places.{view-front, view-width, mark-at}
 
@@ -18,12 +19,12 @@ use Rattle.ordered_bytes.proofs.Places.{view-front, view-width, mark-at
 abbrev pub acceptingIn : ℕ → Buffer → ℕ → List ℕ → Acceptance
 acceptingIn slot b n payload =
     checks ((eqb n largest, 9) ∷ (getD (b .marks) slot false, 7) ∷ (ltb (width b) (length payload), 11) ∷ [])
-    (λ r. record { said = refuses r; buffer = b })
-    (record { said = answers tt; buffer = stored b slot payload })
+    (λ r. record { said = refuses r; ack = none; buffer = b })
+    (record { said = answers tt; ack = none; buffer = stored b slot payload })
 
 module _ (b : Buffer) (n : ℕ) (payload : List ℕ) (well : wellFormed b ≡ true) where
   abbrev Refuses : ℕ → Type 0
-  Refuses r = _≡_ {A = Acceptance} (record { said = refuses r; buffer = b }) (accepting b n payload)
+  Refuses r = _≡_ {A = Acceptance} (record { said = refuses r; ack = ackWith r n; buffer = b }) (accepting b n payload)
 
   pub refuses-below : n < b .state .«front_number» → Refuses 5
   unfolding accepting

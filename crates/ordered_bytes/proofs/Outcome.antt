@@ -15,7 +15,7 @@ use Rattle.refusal.proofs.Checks.{Failed, Checked, passes, fails, checked}
 use Rattle.lists.specs.Numbers.{largest}
 use Rattle.ordered_bytes.specs.Receiver.{isHeld, placeAt, acceptChecks, consumed, pieces, anyHeld}
 use Rattle.ordered_bytes.specs.Buffer.{Buffer, slots, width, slotAt, view, wellFormed, shapeFits, stored}
-use Rattle.ordered_bytes.specs.Calls.{creating, starting, Acceptance, accepting, Consumption, given, consuming, PieceConsumption, givenPieces, consumingBytes}
+use Rattle.ordered_bytes.specs.Calls.{creating, starting, Acceptance, ackWith, accepting, Consumption, given, consuming, PieceConsumption, givenPieces, consumingBytes}
 use Rattle.ordered_bytes.proofs.WellFormed.{Shaped, shaped, Good, good}
 use Rattle.ordered_bytes.proofs.View.{fresh, length-held}
 
@@ -67,23 +67,25 @@ module _ (b : Buffer) (n : ℕ) (payload : List ℕ) where
     pub free : isHeld (placeAt (view b) (n - b .state .«front_number»)) ≡ false
     pub fits : length payload ≤ width b
 
+  -- refused, with all as it came and the ack that goes with the number
+  abbrev pub refusedWith : ℕ → Acceptance
+  refusedWith r = record { said = refuses r; ack = ackWith r n; buffer = b }
+
+  -- not refused
+  abbrev pub storing : Acceptance
+  storing = record { said = answers tt; ack = none; buffer = stored b (slotAt b (n - b .state .«front_number»)) payload }
+
   pub data Accepting : Type 0 where
-    malformed : wellFormed b ≡ false → accepting b n payload ≡ record { said = refuses 12; buffer = b } → Accepting
-    refused : (r : ℕ) → Good b → Failed (acceptChecks (view b) n payload) r → accepting b n payload ≡ record { said = refuses r; buffer = b } → Accepting
-    stores : Acceptable → accepting b n payload ≡ record { said = answers tt; buffer = stored b (slotAt b (n - b .state .«front_number»)) payload } → Accepting
+    malformed : wellFormed b ≡ false → accepting b n payload ≡ refusedWith 12 → Accepting
+    refused : (r : ℕ) → Good b → Failed (acceptChecks (view b) n payload) r → accepting b n payload ≡ refusedWith r → Accepting
+    stores : Acceptable → accepting b n payload ≡ storing → Accepting
 
   pub accept-ways : Accepting
   unfolding accepting view
-  accept-ways = by (checked refusing passing ((not (wellFormed b), 12) ∷ acceptChecks (view b) n payload))
+  accept-ways = by (checked refusedWith storing ((not (wellFormed b), 12) ∷ acceptChecks (view b) n payload))
     where
-      refusing : ℕ → Acceptance
-      refusing r = record { said = refuses r; buffer = b }
-
-      passing : Acceptance
-      passing = record { said = answers tt; buffer = stored b (slotAt b (n - b .state .«front_number»)) payload }
-
-      by : Checked ((not (wellFormed b), 12) ∷ acceptChecks (view b) n payload) refusing passing → Accepting
-      by (fails r (inl f) e) = malformed (not-true _ (f .0)) (e ∙ ap refusing (sym (f .1)))
+      by : Checked ((not (wellFormed b), 12) ∷ acceptChecks (view b) n payload) refusedWith storing → Accepting
+      by (fails r (inl f) e) = malformed (not-true _ (f .0)) (e ∙ ap refusedWith (sym (f .1)))
       by (fails r (inr f) e) = refused r (good (not-false _ (f .0))) (f .1) e
       by (passes p e) = stores (record {
         well = good (not-false _ (p .0));
@@ -95,8 +97,7 @@ module _ (b : Buffer) (n : ℕ) (payload : List ℕ) where
       }) e
 
   -- what holds of a refusal that leaves all as it came, and of the stored payload where the checks pass, holds of accepting
-  pub accept-case : (P : Acceptance → Type 0) → ((r : ℕ) → P (record { said = refuses r; buffer = b }))
-      → (Acceptable → P (record { said = answers tt; buffer = stored b (slotAt b (n - b .state .«front_number»)) payload })) → P (accepting b n payload)
+  pub accept-case : (P : Acceptance → Type 0) → ((r : ℕ) → P (refusedWith r)) → (Acceptable → P storing) → P (accepting b n payload)
   accept-case P refusing passing =
       elim accept-ways [
         | malformed m e ↦ rw e (refusing 12)

@@ -1,4 +1,4 @@
--- Which refusals a call on a well-formed buffer may answer: a read answers, or says 8 or 10, and no call says 12.
+-- Which refusals a call on a well-formed buffer may answer: a read answers, or says 8 or 10, and no call says 12. Of accepting on any buffer: an ack comes with 5 alone.
 -- Assumes nothing.
 use Prim.Native.Nat.{ℕ}
 use mathlib.Core.Path.{_≡_, refl, sym, _∙_}
@@ -9,8 +9,8 @@ use Rattle.refusal.specs.Said.{Said, answers, refuses, refusalIn}
 use Rattle.refusal.proofs.Among.{computes, never, checks-among}
 use Rattle.ordered_bytes.specs.Receiver.{acceptChecks, consumed, anyHeld, available}
 use Rattle.ordered_bytes.specs.Buffer.{Buffer, view, wellFormed}
-use Rattle.ordered_bytes.specs.Calls.{starting, Acceptance, accepting, peeking, consuming, consumingBytes}
-use Rattle.ordered_bytes.proofs.Outcome.{malformed, short, reads, consume-ways, empty, consume-bytes-ways}
+use Rattle.ordered_bytes.specs.Calls.{starting, Acceptance, ackWith, accepting, peeking, consuming, consumingBytes}
+use Rattle.ordered_bytes.proofs.Outcome.{accept-case, malformed, short, reads, consume-ways, empty, consume-bytes-ways}
 
 -- ---- the ends of a read
 
@@ -34,6 +34,12 @@ given-ends : {A : Type 0} (none : Bool) (v : A) → Ends (cond none (refuses 8) 
 given-ends true v = eight refl
 given-ends false v = values v refl
 
+-- ---- the ack that goes with a refusal
+
+-- accepting gives the ack of the packet's number, count 1, exactly where it says 5
+pub accept-acks-5 : (b : Buffer) (n : ℕ) (payload : List ℕ) → accepting b n payload .ack ≡ ackWith (refusalIn (accepting b n payload .said)) n
+accept-acks-5 b n payload = accept-case b n payload (λ o. o .ack ≡ ackWith (refusalIn (o .said)) n) (λ r. refl) (λ a. refl)
+
 -- ---- the calls
 
 module _ (b : Buffer) (well : wellFormed b ≡ true) where
@@ -46,7 +52,7 @@ module _ (b : Buffer) (well : wellFormed b ≡ true) where
   accept-never n payload =
       rw well
       (never 12 refl
-      (checks-among (λ (o : Acceptance). refusalIn (o .said)) (λ r. record { said = refuses r; buffer = b }) {ns = 5 ∷ 6 ∷ 9 ∷ 7 ∷ 11 ∷ []}
+      (checks-among (λ (o : Acceptance). refusalIn (o .said)) (λ r. record { said = refuses r; ack = ackWith r n; buffer = b }) {ns = 5 ∷ 6 ∷ 9 ∷ 7 ∷ 11 ∷ []}
       (acceptChecks (view b) n payload) refl (computes refl)))
 
   pub peek-never : refusalIn (peeking b) ≡ 12 → ⊥

@@ -1,10 +1,11 @@
 -- What each call of the receive buffer says and leaves, on every input: decode the lent lists, apply document 01's rule, write the change back.
 use Prim.Native.Nat.{ℕ, _-_}
 use mathlib.Core.Bool.{Bool, false, not, cond}
+use mathlib.Core.Option.{Option, none, some}
 use mathlib.Core.List.{List, [], _∷_, map}
 use lib.ListN.{length, replicate}
 use lib.Seq.{paste}
-use lib.Dec.{ltb}
+use lib.Dec.{ltb, eqb}
 use Rattle.refusal.specs.Refusal.{numberOf}
 use Rattle.refusal.specs.Said.{Said, answers, refuses, checks}
 use Rattle.ordered_bytes.specs.declared.OrderedBytes.{OrderedBytes}
@@ -38,6 +39,7 @@ startedSays (started.Refused r) = refuses (numberOf r)
 
 abbrev pub acceptedSays : Accepted → Said Unit
 acceptedSays accept.Stored = answers tt
+acceptedSays (accept.Below c) = refuses 5
 acceptedSays (accept.Refused r) = refuses (numberOf r)
 
 abbrev pub peekedSays : Peeked → Said Unit
@@ -47,6 +49,11 @@ peekedSays (peeked.Refused r) = refuses (numberOf r)
 -- (packets, base, bytes)
 abbrev pub resultSays : ConsumeResult → ℕ × ℕ × ℕ
 resultSays c = (c .«num_packets_consumed», c .«base_packet_number», c .«bytes_consumed»)
+
+abbrev pub acceptedAck : Accepted → Option (ℕ × ℕ × ℕ)
+acceptedAck accept.Stored = none
+acceptedAck (accept.Below c) = some (resultSays c)
+acceptedAck (accept.Refused r) = none
 
 abbrev pub consumedSays : ConsumeAnswer → Said (ℕ × ℕ × ℕ)
 consumedSays (consume.Given c) = answers (resultSays c)
@@ -91,18 +98,24 @@ starting b s =
       «carry_len» = b .state .«carry_len»;
     }))
 
+-- what is said, the ack that goes with it as a read answers one, and the buffer left
 pub record Acceptance : Type 0 where
   pub said : Said Unit
+  pub ack : Option (ℕ × ℕ × ℕ)
   pub buffer : Buffer
 
 abbrev pub acceptanceOf : Accepted → OrderedBytes → List Bool → List ℕ → List ℕ → Acceptance
-acceptanceOf r o marks lengths store = record { said = acceptedSays r; buffer = bufferOf o marks lengths store }
+acceptanceOf r o marks lengths store = record { said = acceptedSays r; ack = acceptedAck r; buffer = bufferOf o marks lengths store }
+
+-- "Accepting's refusal 5 also gives an ack of that number, count 1" (document 02, §3)
+abbrev pub ackWith : ℕ → ℕ → Option (ℕ × ℕ × ℕ)
+ackWith r n = cond (eqb r 5) (some (1, n, 0)) none
 
 unfoldable pub accepting : Buffer → ℕ → List ℕ → Acceptance
 accepting b n payload =
     checks ((not (wellFormed b), 12) ∷ acceptChecks (view b) n payload)
-    (λ r. record { said = refuses r; buffer = b })
-    (record { said = answers tt; buffer = stored b (slotAt b (n - b .state .«front_number»)) payload })
+    (λ r. record { said = refuses r; ack = ackWith r n; buffer = b })
+    (record { said = answers tt; ack = none; buffer = stored b (slotAt b (n - b .state .«front_number»)) payload })
 
 unfoldable pub peeking : Buffer → Said Unit
 peeking b = checks ((not (wellFormed b), 12) ∷ (not (available (view b)), 8) ∷ []) refuses (answers tt)

@@ -33,8 +33,10 @@ pub enum Started {
     Refused(Refusal),
 }
 
+// Refusal 5 stands apart: it gives an ack, of that number and count 1, in the form of a read's (document 02, §3).
 pub enum Accepted {
     Stored,
+    Below(ConsumeResult),
     Refused(Refusal),
 }
 
@@ -170,7 +172,11 @@ pub fn buffer_in_packet_unchecked(
 {
     let front_number = o.front_number;
     if n < front_number {
-        return Accepted::Refused(Refusal::Below);
+        return Accepted::Below(ConsumeResult {
+            num_packets_consumed: 1,
+            base_packet_number: n,
+            bytes_consumed: 0,
+        });
     }
     let distance = n - front_number;
     if marks.len() as u64 <= distance {

@@ -2,6 +2,7 @@
 -- Assumes nothing.
 use Prim.Native.Nat.{ℕ, _+_, _*_, _<_, _≤_}
 use mathlib.Core.Path.{_≡_, sym, ap, ap₂, _∙_}
+use mathlib.Core.Option.{Option}
 use mathlib.Core.List.{List}
 use native.Mathlib.Omega.{arith}
 use lib.ListN.{length, getD, take, drop, set}
@@ -21,8 +22,8 @@ use Rattle.receive.specs.Datagram.{Acks, Progress, acksOf, accepts, ente
 use Rattle.receive.proofs.Takes.{taken-one, rest, rest-on}
 
 module _ (s answers : List ℕ) (i at : ℕ) {t : ℕ} (read : t ≡ typeAt s at) where
-  pub accepted : (b : Buffer) (len m : ℕ) {after : Buffer} {said : Said Unit} {n r : ℕ} → t ≡ 3 → n ≡ packetNumberAt s at → m ≡ len → n ≤ largest
-      → record { said = said; buffer = after } ≡ accepting b n (take m (drop (at + 20) s)) → r ≡ refusalIn said → WellBuffer b
+  pub accepted : (b : Buffer) (len m : ℕ) {after : Buffer} {said : Said Unit} {ack : Option (ℕ × ℕ × ℕ)} {n r : ℕ} → t ≡ 3 → n ≡ packetNumberAt s at → m ≡ len → n ≤ largest
+      → record { said = said; ack = ack; buffer = after } ≡ accepting b n (take m (drop (at + 20) s)) → r ≡ refusalIn said → WellBuffer b
       → Leaves WellBuffer (takes 3 accepts i (packetAt s (at, len)) (progress b answers)) (progress after (set answers i r))
   accepted b len m {n = n} kind number length small e answer well =
       let payload : take m (drop (at + 20) s) ≡ packetAt s (at, len) .payload = ap (λ (k : ℕ). take k (drop (at + 20) s)) length ∙ sym (payload-is s at len) in

@@ -19,7 +19,7 @@ use Rattle.window.specs.declared.SlidingWindow.{SlidingWindow}
 
 -- ---- the call for one packet
 
--- `buffer_in_packet`: number and payload are the packet's
+-- `buffer_in_packet`: number and payload are the packet's. A 5 means "ack its number, count 1": the ack is not said again, since the caller reads the number off the header at the index.
 abbrev pub accepts : Buffer → Packet → Said Unit × Buffer
 accepts b p = let a = accepting b (p .header .«packet_number») (p .payload) in (a .said, a .buffer)
 

@@ -11,6 +11,7 @@ ghost use Rattle.receive.specs.Datagram.{accepts, progress, takes, takes
 use ordered_bytes::Accepted;
 use ordered_bytes::OrderedBytes;
 use ordered_bytes::SlotLength;
+use refusal::Refusal;
 
 // The type of a data packet.
 const DATA: u8 = 3;
@@ -77,11 +78,13 @@ fn accept_listed(
     answers[i] = refusal_in(accepted);
 }
 
+// Of a 5 the ack is left out: it is of the packet's own number, which stands in the datagram.
 fn refusal_in(accepted: Accepted) -> u8
     ensures { λ r. ⌜ r ≡ refusalIn (acceptedSays accepted) ⌝ }
 {
     match accepted {
         Accepted::Stored => 0,
+        Accepted::Below(_) => refusal::number(Refusal::Below),
         Accepted::Refused(r) => refusal::number(r),
     }
 }

@@ -22,7 +22,7 @@ pub struct AcksReceived {
     pub cells: usize,
 }
 
-// Each data packet listed is accepted as `buffer_in_packet` accepts it.
+// Each data packet listed is accepted as `buffer_in_packet` accepts it. An answer of 5 means: ack its number, count 1 (document 02, §3). The number is read off the header at the index.
 pub fn receive(
     o: OrderedBytes,
     datagram: &[u8],

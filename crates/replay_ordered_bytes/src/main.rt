@@ -76,7 +76,7 @@ fn fill_payload(n: u64, payload: &mut [u8]) {
     }
 }
 
-// 0 where a packet as long as the lent payload is stored.
+// 0 where a packet as long as the lent payload is stored. The Rust gives no ack where it refuses, so that of 5 is left out.
 fn accept_one(
     o: OrderedBytes,
     n: u64,
@@ -88,6 +88,7 @@ fn accept_one(
     fill_payload(n, payload);
     match ordered_bytes::buffer_in_packet(o, n, payload, marks, lengths, store) {
         Accepted::Stored => 0,
+        Accepted::Below(_) => class(Refusal::Below),
         Accepted::Refused(r) => class(r),
     }
 }
