@@ -5,6 +5,7 @@
 // Left out: numbers that reach 2^64 (9), where the Rust overflows. The output is as long as needed, or longer: none is refused with 10. The bytes of the queue
 // follow from their places.
 ghost use Rattle.io.specs.Counts.{Counts};
+use outstanding::PLACES;
 use writer::DataAnswer;
 use writer::DataPacked;
 
@@ -14,6 +15,9 @@ const QUEUE_LEN: usize = 65536;
 const MOST_ENTRIES: usize = 64;
 
 const OUT_LEN: usize = 16384;
+
+// The bytes that a store is lent: 64 packets of 1,520.
+const STORE_LEN: usize = PLACES * 1520;
 
 // What output bytes hold before a packing.
 const BEFORE: u8 = 9;
@@ -55,7 +59,8 @@ fn print_packed(p: DataPacked) {
     recorded::print_number(p.bytes_cut as u64);
 }
 
-// Every byte of the output counts in the sum: those past the packets stay at 9.
+// Every byte of the output counts in the sum: those past the packets stay at 9. Each packing is lent an empty store: with ten places free it answers what the Rust,
+// which has no store, does.
 fn pack_into(
     next_packet_num: u64,
     src_conn_id: u32,
@@ -64,16 +69,23 @@ fn pack_into(
     bytes: &[u8],
     lengths: &[u32],
 ) {
+    let mut numbers = [0u64; PLACES];
+    let mut payload_lengths = [0u32; PLACES];
+    let mut packets = [0u8; STORE_LEN];
     let answer = writer::consume_data_into(
+        outstanding::new(),
         bytes,
         lengths,
         next_packet_num,
         src_conn_id,
         dst_conn_id,
         out,
+        &mut numbers,
+        &mut payload_lengths,
+        &mut packets,
     );
     match answer {
-        DataAnswer::Packed(p) => print_packed(p),
+        DataAnswer::Packed(p, _) => print_packed(p),
         DataAnswer::Refused(r) => recorded::begin_line(refusal::number(r) as u64),
     }
     recorded::print_number(recorded::sum_of(out));

@@ -4,6 +4,8 @@ pub mod Run
 pub mod Packed
 pub mod Announced
 pub mod Made
+pub mod Sending
+pub mod Kept
 pub mod AckCount
 pub mod AckChecks
 pub mod AckTurns

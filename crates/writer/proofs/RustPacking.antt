@@ -1,4 +1,4 @@
--- The Rust's packing of queued data and document 01's rule agree on every queue: `rust-packing`, at the end.
+-- The Rust's packing of queued data and document 01's rule agree on every queue: `rust-packing`, at the end, and behind it `rust-call`, the same of the call with a store.
 -- All before it is over any payload size s from 1 on and any number of packets k from 1 on, in a datagram of (s + 20) * k bytes; the theorem has 1,500 and 10.
 -- A loop's law says what is answered from a state with room for j more packets on: the payloads still to come are `chunks` of the bytes still there. Each packet but the
 -- last is full, so the room stays a multiple of s + 20. That the answer is no `none` shows that no loop runs out of its steps.
@@ -15,11 +15,17 @@ use lib.ListN.{length, take, drop, length-append, length-take, length-drop, leng
 use lib.Seq.{length-take-le, take-all, take-length, take-take, take-add, take-append-le, drop-length, drop-nil, drop-at, drop-drop, drop-append-le, drop-append-add, append-snoc}
 use lib.Dec.{ltb, leb, lit<}
 use borrow.Author.Tests.{ltb-true, ltb-false, leb-true, leb-false, lt-ltb, le-ltb, le-leb, lt-leb}
+use Rattle.refusal.specs.Said.{answers, refuses}
 use Rattle.packet.specs.Packet.{Packet}
 use Rattle.packet.specs.Sizes.{datagramLimit}
-use Rattle.writer.specs.Packing.{payloadSize, byteLimit, bytesTaken, cut, dataPacket, numbered, removal, removed}
-use Rattle.writer.specs.RustPacking.{State, Consumed, isEmpty, returned, emit, drain, finish, outer, consume, consumeDataInto, queueOf, leftBy, answered}
+use Rattle.outstanding.specs.Outstanding.{Store, free, wellFormedBelow}
+use Rattle.writer.specs.declared.DataPacked.{DataPacked}
+use Rattle.writer.specs.Packing.{payloadSize, byteLimit, bytesTaken, cut, dataPacket, numbered, packetsMade, removal, removed, Outcome}
+use Rattle.writer.specs.RustPacking.{State, Consumed, isEmpty, returned, emit, drain, finish, outer, consume, consumeDataInto, queueOf, leftBy, answered, AsRust}
+use Rattle.writer.specs.Sending.{consumesData}
+use Rattle.writer.proofs.Made as made
 use Rattle.writer.proofs.Made.{length-cut}
+use Rattle.writer.proofs.Sending.{ten-free}
 
 -- ---- the queue left
 
@@ -423,3 +429,23 @@ room = refl
 -- For every queue, the Rust's loops end, and their packets, numbers, bytes counted and queue left are document 01's
 pub rust-packing : (src dst next : ℕ) (entries : List (List ℕ)) → consumeDataInto src dst next entries ≡ some (answered byteLimit src dst next entries)
 rust-packing src dst next entries = rw (limit, room) (consumed payloadSize src dst size 10 next entries (omega arith))
+
+-- With at least ten places free the call, where it is not refused, answers what the Rust does and writes its packets
+pub rust-call : (k : Store) (src dst next : ℕ) (entries : List (List ℕ)) (out : List ℕ) (d : DataPacked) → 10 ≤ free k
+    → consumesData k (queueOf entries) next src dst out .said ≡ answers d → AsRust src dst next entries d (consumesData k (queueOf entries) next src dst out .out)
+unfolding consumesData
+rust-call k src dst next entries out d ten e = by (wellFormedBelow next k) refl
+  where
+    by : (t : Bool) → wellFormedBelow next k ≡ t → AsRust src dst next entries d (consumesData k (queueOf entries) next src dst out .out)
+    by true well =
+        let same = ten-free k (queueOf entries) next src dst out well ten in
+        let facts = made.answered byteLimit (queueOf entries) next src dst out d (sym (ap (λ (o : Outcome). o .0) same) ∙ e) in
+        record {
+          made = packetsMade byteLimit src dst next (flatten entries);
+          answer = rw (facts .said) (rust-packing src dst next entries);
+          datagram = rw (ap (λ (o : Outcome). o .1) same) (made.written-made byteLimit (queueOf entries) next src dst out d facts);
+        }
+    by false malformed =
+        let said : refuses 12 ≡ answers d = rw malformed at e in
+        let z : _≡_ {A = ℕ} 0 1 = cc in
+        absurd (omega arith)

@@ -1,4 +1,5 @@
 pub mod Packing
+pub mod Sending
 pub mod RustPacking
 pub mod PayloadBytes
 pub mod Reserve

@@ -1,4 +1,5 @@
--- Packing queued data into a datagram: document 01, "From the queue to a datagram", its first paragraph. Reference: `consume_data_into`.
+-- Packing queued data into a datagram: document 01, "From the queue to a datagram", its first paragraph, with its 15,000 as a limit that is given.
+-- Reference: `consume_data_into`. The call itself, which keeps what it packs, is Sending.antt.
 use Prim.Native.Nat.{ℕ, zero, suc, _+_, _-_, _*_, _/_, min}
 use mathlib.Core.Bool.{Bool, not, cond}
 use mathlib.Core.List.{List, [], _∷_}
@@ -13,8 +14,8 @@ use Rattle.header.specs.declared.PacketType.the-variants.{UnencryptedData}
 use Rattle.packet.specs.Packet.{Packet, joined}
 unfoldable pub use Rattle.packet.specs.Sizes.{payloadSize}
 use Rattle.writer.specs.declared.DataPacked.{DataPacked}
-use Rattle.writer.specs.declared.DataAnswer.{DataAnswer}
-use Rattle.writer.specs.declared.DataAnswer.the-variants as dataAnswer
+use Rattle.writer.specs.declared.Taken.{Taken}
+use Rattle.writer.specs.declared.Taken.the-variants as taken
 
 -- "A queue is entries of bytes, possibly empty: the bytes end to end and a list of lengths"
 pub record Queue : Type 0 where
@@ -94,11 +95,11 @@ unfoldable pub sum : List ℕ → ℕ
 sum [] = 0
 sum (l ∷ ls) = l + sum ls
 
--- ---- the call
+-- ---- the packing
 
-abbrev pub dataSays : DataAnswer → Said DataPacked
-dataSays (dataAnswer.Packed d) = answers d
-dataSays (dataAnswer.Refused r) = refuses (numberOf r)
+abbrev pub takenSays : Taken → Said DataPacked
+takenSays (taken.Packed d) = answers d
+takenSays (taken.Refused r) = refuses (numberOf r)
 
 -- what a packing that is not refused answers: "q, the packets p, the next number, the entries removed, and the bytes cut from the first entry left"
 abbrev pub taking : ℕ → Queue → ℕ → DataPacked
@@ -125,15 +126,11 @@ dataChecks limit queue next room =
 abbrev pub Outcome : Type 0
 Outcome = Said DataPacked × List ℕ
 
-abbrev pub leaves : DataAnswer → List ℕ → Outcome
-leaves r out = (dataSays r, out)
+abbrev pub leaves : Taken → List ℕ → Outcome
+leaves r out = (takenSays r, out)
 
 -- Written "from the start of the lent output, whose other bytes stay".
 unfoldable pub packing : ℕ → Queue → ℕ → ℕ → ℕ → List ℕ → Outcome
 packing limit queue next src dst out =
     checks (dataChecks limit queue next (length out)) (λ n. (refuses n, out))
     (answers (taking limit queue next), paste out 0 (joined (packetsMade limit src dst next (queue .bytes))) (packedSize (taking limit queue next .bytes)))
-
--- the call, with document 01's limit: every promise of it takes the limit from here
-abbrev pub consumesData : Queue → ℕ → ℕ → ℕ → List ℕ → Outcome
-consumesData = packing byteLimit

@@ -2,15 +2,17 @@
 -- other words: proofs/RustPacking.antt shows that both make the same packets and leave the same queue, whatever was queued.
 -- The tests before a subtraction keep it from falling below 0, and a payload's length fits the header's field. `*next_packet_num += 1` overflows where document 01
 -- refuses with 9; there the two are not compared, and numbers go on here.
-use Prim.Native.Nat.{ℕ, zero, suc, _+_, _-_, min}
+use Prim.Native.Nat.{ℕ, zero, suc, _+_, _-_, _*_, min}
+use mathlib.Core.Path.{_≡_}
 use mathlib.Core.Bool.{Bool, true, false, not, cond, _&&_}
 use mathlib.Core.List.{List, [], _∷_, _++_, map, flatten}
 use mathlib.Core.Option.{Option, none, some, Option·map}
 use lib.ListN.{length, take, drop}
 use lib.Dec.{ltb, leb}
-use Rattle.packet.specs.Packet.{Packet}
+use Rattle.packet.specs.Packet.{Packet, joined}
 use Rattle.packet.specs.Sizes.{datagramLimit}
-use Rattle.writer.specs.Packing.{Queue, payloadSize, bytesTaken, packetsFor, packetsMade, dataPacket, removed}
+use Rattle.writer.specs.declared.DataPacked.{DataPacked}
+use Rattle.writer.specs.Packing.{Queue, payloadSize, packetsMade, dataPacket, taking}
 
 -- the locals, and what `next_packet_num` and `ans` refer to; `ans` as the packets that `serialize_packet_direct` appended
 pub record State : Type 0 where
@@ -119,12 +121,22 @@ cutFirst n (entry ∷ entries) = drop n entry ∷ entries
 abbrev pub leftBy : ℕ × ℕ → List (List ℕ) → List (List ℕ)
 leftBy gone entries = cutFirst (gone .1) (drop (gone .0) entries)
 
+-- what a packing answers and the packets that it makes, in the Rust's terms
+abbrev pub consumedAs : DataPacked → List Packet → List (List ℕ) → Consumed
+consumedAs d made entries = record {
+  «payload_bytes_packed» = d .bytes;
+  «next_packet_num» = d .«next_packet_num»;
+  ans = made;
+  queue = leftBy (d .«entries_removed», d .«bytes_cut») entries;
+}
+
 abbrev pub answered : ℕ → ℕ → ℕ → ℕ → List (List ℕ) → Consumed
-answered limit src dst next entries =
-    let q = bytesTaken limit (length (flatten entries)) in
-    record {
-      «payload_bytes_packed» = q;
-      «next_packet_num» = next + packetsFor q;
-      ans = packetsMade limit src dst next (flatten entries);
-      queue = leftBy (removed limit (queueOf entries)) entries;
-    }
+answered limit src dst next entries = consumedAs (taking limit (queueOf entries) next) (packetsMade limit src dst next (flatten entries)) entries
+
+-- ---- the call
+
+-- the Rust answers as the call answered, and makes the packets with which the call's output begins
+pub record AsRust (src dst next : ℕ) (entries : List (List ℕ)) (d : DataPacked) (out : List ℕ) : Type 0 where
+  pub made : List Packet
+  pub answer : consumeDataInto src dst next entries ≡ some (consumedAs d made entries)
+  pub datagram : take (d .bytes + 20 * d .packets) out ≡ joined made

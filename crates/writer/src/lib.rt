@@ -4,6 +4,8 @@ use header::BluefinHeader;
 use header::BluefinSecurityFields;
 use header::PacketType;
 use lists::LARGEST;
+use outstanding::Outstanding;
+use outstanding::PLACES;
 use parts::smaller;
 use refusal::Refusal;
 ghost use mathlib.Core.Path.{_≡_};
@@ -13,7 +15,9 @@ ghost use lib.Seq.{paste};
 ghost use lib.Dec.{eqb};
 ghost use Rattle.lists.specs.Numbers.{largest};
 ghost use Rattle.packet.specs.Packet.{packetBytes};
-ghost use Rattle.writer.specs.Packing.{queued, packetsFor, packedSize, dataPacket, allPacked, removal, removed, sum, leaves, packing, consumesData};
+ghost use Rattle.writer.specs.Packing.{queued, packetsFor, packedSize, dataPacket, allPacked, removal, removed, sum, leaves, packing};
+ghost use Rattle.writer.specs.Sending.{consumesData, sendingOf};
+ghost use Rattle.outstanding.specs.Outstanding.{storeOf};
 ghost use Rattle.writer.specs.PayloadBytes.{payloadBytes};
 ghost use Rattle.writer.specs.Reserve.{reserving, reserveSays};
 
@@ -34,8 +38,9 @@ pub struct DataPacked {
     pub bytes_cut: usize,
 }
 
+// With a packing, the store's state after it.
 pub enum DataAnswer {
-    Packed(DataPacked),
+    Packed(DataPacked, Outstanding),
     Refused(Refusal),
 }
 
@@ -47,6 +52,12 @@ pub struct Reservation {
 
 pub enum ReserveAnswer {
     Reserved(Reservation),
+    Refused(Refusal),
+}
+
+// What a packing under a limit comes to before it is kept.
+enum Taken {
+    Packed(DataPacked),
     Refused(Refusal),
 }
 
@@ -181,7 +192,7 @@ fn write_packets(
     }
 }
 
-// `consume_data_into` with its byte limit.
+// Packs at most `limit` bytes.
 fn consume_data_up_to(
     limit: usize,
     bytes: &[u8],
@@ -190,23 +201,23 @@ fn consume_data_up_to(
     src_conn_id: u32,
     dst_conn_id: u32,
     out: &mut [u8],
-) -> DataAnswer
+) -> Taken
     ensures { λ r. ⌜ leaves r (now (out .exit)) ≡ packing limit (queued (now (bytes .entry)) (now (lengths .entry))) «next_packet_num» «src_conn_id» «dst_conn_id» (now (out .entry)) ⌝ }
 {
     if !add_up(lengths, bytes.len()) {
-        return DataAnswer::Refused(Refusal::Malformed);
+        return Taken::Refused(Refusal::Malformed);
     }
     let q = smaller(bytes.len(), limit);
     let p = (q + (PAYLOAD_SIZE - 1)) / PAYLOAD_SIZE;
     if p as u64 > LARGEST - next_packet_num {
-        return DataAnswer::Refused(Refusal::Exhausted);
+        return Taken::Refused(Refusal::Exhausted);
     }
     if out.len() < q + 20 * p {
-        return DataAnswer::Refused(Refusal::BufferShort);
+        return Taken::Refused(Refusal::BufferShort);
     }
     write_packets(&bytes[..q], next_packet_num, src_conn_id, dst_conn_id, out);
     let removal = removed_up_to(limit, bytes, lengths);
-    DataAnswer::Packed(DataPacked {
+    Taken::Packed(DataPacked {
         bytes: q,
         packets: p,
         next_packet_num: next_packet_num + p as u64,
@@ -216,25 +227,56 @@ fn consume_data_up_to(
 }
 
 // worker/writer.rs, `WriterHandler::consume_data_into`. The queue is lent as its bytes end to end and the lengths of its entries; what leaves it is answered.
+// The packets made are kept in the store (document 02, §3), and take no more places than it has free.
 pub fn consume_data_into(
+    o: Outstanding,
     bytes: &[u8],
     lengths: &[u32],
     next_packet_num: u64,
     src_conn_id: u32,
     dst_conn_id: u32,
     out: &mut [u8],
+    numbers: &mut [u64],
+    payload_lengths: &mut [u32],
+    packets: &mut [u8],
 ) -> DataAnswer
-    ensures { λ r. ⌜ leaves r (now (out .exit)) ≡ consumesData (queued (now (bytes .entry)) (now (lengths .entry))) «next_packet_num» «src_conn_id» «dst_conn_id» (now (out .entry)) ⌝ }
+    ensures { λ r. ⌜ sendingOf r (now (out .exit)) o (now (numbers .exit)) (now («payload_lengths» .exit)) (now (packets .exit))
+        ≡ consumesData (storeOf o (now (numbers .entry)) (now («payload_lengths» .entry)) (now (packets .entry)))
+        (queued (now (bytes .entry)) (now (lengths .entry))) «next_packet_num» «src_conn_id» «dst_conn_id» (now (out .entry)) ⌝ }
 {
-    consume_data_up_to(
-        BYTE_LIMIT,
+    if !outstanding::well_formed_below(o, next_packet_num, numbers, payload_lengths, packets) {
+        return DataAnswer::Refused(Refusal::Malformed);
+    }
+    let limit = smaller(BYTE_LIMIT, PAYLOAD_SIZE * (PLACES - o.count));
+    let taken = consume_data_up_to(
+        limit,
         bytes,
         lengths,
         next_packet_num,
         src_conn_id,
         dst_conn_id,
         out,
-    )
+    );
+    match taken {
+        Taken::Refused(refusal) => DataAnswer::Refused(refusal),
+        Taken::Packed(packed) => {
+            if o.count == PLACES {
+                return DataAnswer::Refused(Refusal::NoPlace);
+            }
+            let end = packed.bytes + 20 * packed.packets;
+            let kept = outstanding::keep(
+                o,
+                next_packet_num,
+                packed.bytes,
+                packed.packets,
+                &out[..end],
+                numbers,
+                payload_lengths,
+                packets,
+            );
+            DataAnswer::Packed(packed, kept)
+        }
+    }
 }
 
 // worker/writer.rs, `WriterHandler::payload_bytes_in_datagram`.
