@@ -11,14 +11,17 @@ use native.Mathlib.Decide.{decLt}
 use lib.Dec.{eqb, lit≤, lit<}
 use lib.ListN.{length, length-append, length-replicate, replicate}
 use borrow.Author.Tests.{eqb-false}
-use Rattle.refusal.specs.Said.{answers}
+use lib.Seq.{paste}
+use Rattle.refusal.specs.Said.{answers, refuses}
+use Rattle.header.specs.Header.{headerBytes}
 use Rattle.packet.specs.Packet.{Packet, joined}
 use Rattle.packet.specs.Datagram.{listed}
+use Rattle.outstanding.specs.Outstanding.{listing}
 use Rattle.window.specs.Window.{member}
 use Rattle.link.specs.Demand3.{Link, WindowSide, Call, on-sender, pack, Parser, parsing, indexed, run, In, All, Reads, reads, refusals, Start, Accepted, Covered, ToEmpty}
-use Rattle.link.specs.Demand3.{Made-in, ReadsBack, ExpectsFirst, Stops, Demand3}
+use Rattle.link.specs.Demand3.{Made-in, ReadsBack, ExpectsFirst, Stops, outstandingOn, Demand3}
 use Rattle.link.proofs.Sample.{s, first, bytes, readAtHole, last, beforeHole, toHole, beforeConsume, toConsume, beforeLast, calls, holed, consumed}
-use Rattle.link.proofs.Sample.{packetA, packing-A, packed-A, written-A, entered, computed}
+use Rattle.link.proofs.Sample.{packetA, packetB, packetC, packing-A, packed-A, written-A, entered, refusing, holds, packs-A}
 
 -- ---- what the lines are applied to
 
@@ -42,16 +45,16 @@ covers-none l (b ∷ bytes) rest (p ∷ payloads) gap accepted whole = absurd (f
 
 covers : Covered s (run first calls) bytes
 unfolding flatten
-covers = record { payloads = _; accepted = computed .accepted; start = record { rest = []; whole = refl } }
+covers = record { payloads = _; accepted = holds .accepted; start = record { rest = []; whole = refl } }
 
 reads-last : Reads last
 reads-last = reads 1 (replicate 8 0) (omega arith)
 
 empties : ToEmpty first calls
-empties = record { before = beforeLast; last = last; list = refl; reads = reads-last; empty = computed .empty }
+empties = record { before = beforeLast; last = last; list = refl; reads = reads-last; empty = refusing .empty }
 
 empties-hole : ToEmpty first toHole
-empties-hole = record { before = beforeHole; last = readAtHole; list = refl; reads = reads 5 (replicate 5 0) (omega arith); empty = computed .atHole }
+empties-hole = record { before = beforeHole; last = readAtHole; list = refl; reads = reads 5 (replicate 5 0) (omega arith); empty = refusing .atHole }
 
 all-read : (k : ℕ) → All Reads (replicate k last)
 unfolding All
@@ -101,6 +104,11 @@ pub record Shows : Type 0 where
   pub counts : (parser : Parser) → parsing parser written-A (9 ∷ 9 ∷ []) .0 ≡ answers 1
   pub lists : (parser : Parser) → listed written-A (parsing parser written-A (9 ∷ 9 ∷ []) .1) 1 ≡ packetA ∷ []
   pub indexes : (parser : Parser) (expected : ℕ) → indexed expected parser written-A (9 ∷ 9 ∷ []) ≡ packetA ∷ []
+  -- by `lists`, `short` and `few`: at the hole, where nothing was answered, all three packets are listed, or the buffer is short; once all were answered, none
+  pub resends : listing (holed .sender .kept) (replicate 70 9) ≡ (answers 3, paste (replicate 70 9) 0 (joined (packetA ∷ packetB ∷ packetC ∷ [])) 68)
+  pub tooShort : listing (holed .sender .kept) (replicate 67 9) ≡ (refuses 10, replicate 67 9)
+  pub few : length (outstandingOn holed) ≤ 64
+  pub resendsNone : listing (consumed .sender .kept) [] ≡ (answers 0, [])
   -- by `wellFormed`: no call is refused with 12
   pub never12 : (on : Link) (call : Call) → Made-in first calls on call → In 12 (refusals on call) → ⊥
   -- by `reaches`: after so many further reads one was refused with 8 or 10
@@ -112,23 +120,35 @@ pub record Shows : Type 0 where
 
 module _ (atHole : Demand3 s first toHole) (atConsume : Demand3 s first toConsume) (atEnd : Demand3 s first calls) where
   longest-is : atEnd .delivery .longest ≡ bytes
-  longest-is = start-both (atEnd .delivery .longest) bytes (rw (computed .queued) at (atEnd .delivery .sent)) (atEnd .delivery .most bytes covers)
+  longest-is = start-both (atEnd .delivery .longest) bytes (rw (holds .queued) at (atEnd .delivery .sent)) (atEnd .delivery .most bytes covers)
 
   stops-at-hole : holed .receiver .delivered ≡ []
   unfolding member
   stops-at-hole =
       let all : holed .receiver .delivered ≡ atHole .delivery .longest = atHole .delivery .toEmpty empties-hole in
       let c : Covered s holed (atHole .delivery .longest) = atHole .delivery .covered in
-      all ∙ covers-none holed (atHole .delivery .longest) (c .start .rest) (c .payloads) (rw (computed .behind)) (c .accepted) (c .start .whole)
+      all ∙ covers-none holed (atHole .delivery .longest) (c .start .rest) (c .payloads) (rw (holds .behind)) (c .accepted) (c .start .whole)
 
   wrote-A : (parser : Parser) → ReadsBack parser written-A (packetA ∷ []) (9 ∷ 9 ∷ [])
   wrote-A parser =
       let made-in : Made-in first calls packing-A (on-sender (pack 1 2 (replicate 24 0))) = record { before = _; after = _; list = refl; reached = refl } in
-      let w = atEnd .wrote packing-A 1 2 (replicate 24 0) packed-A made-in (computed .packs) in
-      let one : w .packets ≡ packetA ∷ [] = sym (ap (λ (made : List Packet). made ++ w .packets) (computed .makes)) ∙ sym (w .added) ∙ computed .made in
+      let w = atEnd .wrote packing-A 1 2 (replicate 24 0) packed-A made-in (packs-A .packs) in
+      let one : w .packets ≡ packetA ∷ [] = sym (ap (λ (made : List Packet). made ++ w .packets) (packs-A .makes)) ∙ sym (w .added) ∙ packs-A .made in
       let written : written-A ≡ joined (w .packets) = w .written in
       let back = w .readBack (lit< tt) (lit< tt) (lit< tt) parser (9 ∷ 9 ∷ []) (lit≤ tt) in
       rw (written, one) (rw one at back)
+
+  lists-at-hole : listing (holed .sender .kept) (replicate 70 9) ≡ (answers 3, paste (replicate 70 9) 0 (joined (packetA ∷ packetB ∷ packetC ∷ [])) 68)
+  unfolding joined headerBytes
+  lists-at-hole = rw (holds .outstanding) at (atHole .resending .lists (replicate 70 9) (rw (holds .outstanding) (lit≤ tt)))
+
+  short-at-hole : listing (holed .sender .kept) (replicate 67 9) ≡ (refuses 10, replicate 67 9)
+  unfolding joined headerBytes
+  short-at-hole = atHole .resending .short (replicate 67 9) (rw (holds .outstanding) (lit< tt))
+
+  lists-none : listing (consumed .sender .kept) [] ≡ (answers 0, [])
+  unfolding joined
+  lists-none = rw (holds .answered) at (atConsume .resending .lists [] (rw (holds .answered) (lit≤ tt)))
 
   stops : Stops (run first calls) (replicate (suc (atEnd .delivery .enough)) last)
   stops =
@@ -141,13 +161,17 @@ module _ (atHole : Demand3 s first toHole) (atConsume : Demand3 s first toConsum
     stops = stops-at-hole;
     reads = atEnd .delivery .toEmpty empties ∙ longest-is;
     starts = rw longest-is at (atEnd .delivery .delivers);
-    front = rw (computed .counted) at (atConsume .acknowledgement .taken);
-    accepted = atConsume .acknowledgement .wasAccepted (s + 2) (lit≤ tt) (rw (computed .counted) (lit< tt));
-    expects = expects-is (s + 3) (atConsume .acknowledgement .atConsume beforeConsume refl) (lit≤ tt) (rw (computed .entered) three-entered) (rw (computed .entered));
-    notPast = rw (computed .counted) at (atConsume .acknowledgement .notPast);
+    front = rw (holds .counted) at (atConsume .acknowledgement .taken);
+    accepted = atConsume .acknowledgement .wasAccepted (s + 2) (lit≤ tt) (rw (holds .counted) (lit< tt));
+    expects = expects-is (s + 3) (atConsume .acknowledgement .atConsume beforeConsume refl) (lit≤ tt) (rw (holds .entered) three-entered) (rw (holds .entered));
+    notPast = rw (holds .counted) at (atConsume .acknowledgement .notPast);
     counts = λ parser. wrote-A parser .counts;
     lists = λ parser. wrote-A parser .lists;
     indexes = λ parser. wrote-A parser .indexes;
+    resends = lists-at-hole;
+    tooShort = short-at-hole;
+    few = atHole .resending .few;
+    resendsNone = lists-none;
     never12 = atEnd .wellFormed;
     further = suc (atEnd .delivery .enough);
     on = stops .on;

@@ -16,13 +16,14 @@ use Rattle.ordered_bytes.specs.declared.OrderedBytes.{OrderedBytes}
 use Rattle.ordered_bytes.proofs.Reading.{Dry, weight}
 use Rattle.window.specs.Window.{member}
 use Rattle.rtt.proofs.Laws.{fresh-well-formed}
-use Rattle.link.specs.Demand3.{Link, Memory, Call, on-sender, on-receiver, on-window, on-trips, consume-window, fresh, step, run, refusals, Ack, In, MadeEarlier, Fair, Fairly, Premises}
+use Rattle.link.specs.Demand3.{Link, Memory, Call, on-sender, on-receiver, on-window, on-trips, consume-window, callWindow, hearsOf, fresh, step, run, refusals, Ack, In, MadeEarlier, Fair, Fairly, Premises}
 use Rattle.link.specs.Demand3.{Start, Made, ToEmpty, Made-in, Delivers, Acknowledges, Demand3}
 use Rattle.link.proofs.Invariant.{Below, Keeps}
-use Rattle.link.proofs.All.{all-in}
+use Rattle.link.proofs.All.{all-in, in-neither}
 use Rattle.link.proofs.Runs.{run-last, fairly-before, fair-next}
 use Rattle.link.proofs.Wrote.{wrote}
 use Rattle.link.proofs.Covered.{longest, longest-covered, longest-most, reach, reach-is, reach-most, at-take, flatten-start, start-through}
+use Rattle.link.proofs.Store.{length-keyed, store-begins, hears-does, resends}
 use Rattle.link.proofs.Sender.{made-at, made-earlier-at, made-is, sender-begins, sender-does}
 use Rattle.link.proofs.Receiver.{Numbered, receiver-begins, receiver-extends, receiver-does, emptied, reads-reach}
 use Rattle.link.proofs.Window.{window-begins, window-extends, window-does, expects-within, consume-first}
@@ -30,11 +31,12 @@ use Rattle.link.proofs.Trips.{trips-does}
 
 -- ---- the invariant holds of every link reached
 
-begins : (s w : ℕ) (o : OrderedBytes) (m : Memory) (calls : List Call) → Premises s w o m calls → Keeps s (fresh s w o m)
+pub begins : (s w : ℕ) (o : OrderedBytes) (m : Memory) (calls : List Call) → Premises s w o m calls → Keeps s (fresh s w o m)
 begins s w o m calls p = record {
   payloads = [];
   gone = 0;
   sender = sender-begins s w o m (omega (arith, p .start));
+  store = let none-answered : s - s ≡ 0 = omega arith in rw none-answered (store-begins s m (p .room));
   receiver = receiver-begins s w o m [] (p .new);
   acked = window-extends (omega arith) (window-begins s w o m);
   trips = fresh-well-formed;
@@ -57,16 +59,29 @@ module _ {s : ℕ} {l : Link} (v : Keeps s l) where
   ack-within : (a : Ack) → In a (l .receiver .acks) → a .base + a .count ≤ s + v .gone
   ack-within a h = all-in (Below s (s + v .gone)) (l .receiver .acks) (v .receiver .acks) a h .1
 
+  -- no more packets are answered than were made
+  answered-made : l .acked .expects - s ≤ length (l .sender .made)
+  answered-made =
+      omega (arith, expects-within (v .acked) (omega arith), v .receiver .within, length-keyed s (l .sender .made) (v .payloads) (v .sender .made))
+
 -- what a call keeps, and that it is not refused with 12
 record Does (s : ℕ) (l : Link) (c : Call) : Type 0 where
   keeps : Keeps s (step l c)
   never12 : In 12 (refusals l c) → ⊥
 
 does : {s : ℕ} (l : Link) (c : Call) → Keeps s l → Fair l c → Does s l c
-does l (on-sender c) v f =
-    let d = sender-does l c (v .sender) f in
+does {s = s} l (on-sender c) v f =
+    let d = sender-does (l .acked .expects - s) l c (v .sender) (answered-made v) (v .store) f in
     record {
-      keeps = record { payloads = v .payloads ++ d .more; gone = v .gone; sender = d .keeps; receiver = receiver-extends (d .more) (v .receiver); acked = v .acked; trips = v .trips };
+      keeps = record {
+        payloads = v .payloads ++ d .more;
+        gone = v .gone;
+        sender = d .keeps;
+        store = d .store;
+        receiver = receiver-extends (d .more) (v .receiver);
+        acked = v .acked;
+        trips = v .trips;
+      };
       never12 = d .never12;
     }
 does l (on-receiver c) v f =
@@ -77,6 +92,7 @@ does l (on-receiver c) v f =
         payloads = v .payloads;
         gone = later .gone;
         sender = v .sender;
+        store = v .store;
         receiver = later .keeps;
         acked = window-extends (omega (arith, later .up)) (v .acked);
         trips = v .trips;
@@ -85,21 +101,25 @@ does l (on-receiver c) v f =
     }
 does l (on-window c) v f =
     let d = window-does l c (v .acked) (ack-within v) f in
+    let h = hears-does (v .sender) (v .acked) (omega arith) (omega (arith, v .receiver .within)) (v .store) c in
     record {
-      keeps = record { payloads = v .payloads; gone = v .gone; sender = v .sender; receiver = v .receiver; acked = d .keeps; trips = v .trips };
-      never12 = d .never12;
+      keeps = record { payloads = v .payloads; gone = v .gone; sender = h .keeps; store = h .store; receiver = v .receiver; acked = d .keeps; trips = v .trips };
+      never12 = in-neither 12 (callWindow (l .acked) c .refusals) (hearsOf (l .acked) c (l .sender) .refusals) (d .never12) (h .never12);
     }
 does l (on-trips c) v f =
     let d = trips-does (l .trips) c (v .trips) in
     record {
-      keeps = record { payloads = v .payloads; gone = v .gone; sender = v .sender; receiver = v .receiver; acked = v .acked; trips = d .keeps };
+      keeps = record { payloads = v .payloads; gone = v .gone; sender = v .sender; store = v .store; receiver = v .receiver; acked = v .acked; trips = d .keeps };
       never12 = d .never12;
     }
+
+pub does-keeps : {s : ℕ} (l : Link) (c : Call) → Keeps s l → Fair l c → Keeps s (step l c)
+does-keeps l c v f = does l c v f .keeps
 
 runs : {s : ℕ} (l : Link) (calls : List Call) → Keeps s l → Fairly l calls → Keeps s (run l calls)
 unfolding run Fairly
 runs l [] v f = v
-runs l (c ∷ calls) v f = runs (step l c) calls (does l c v (f .0) .keeps) (f .1)
+runs l (c ∷ calls) v f = runs (step l c) calls (does-keeps l c v (f .0)) (f .1)
 
 -- ---- what the invariant says of the bytes
 
@@ -191,6 +211,7 @@ module _ (s w : ℕ) (o : OrderedBytes) (m : Memory) (calls : List Call) (p : Pr
   demand3 = record {
     delivery = delivers;
     acknowledgement = acknowledges;
+    resending = resends ends;
     wrote = λ on src dst out p made e. wrote (on .sender) src dst out p e;
     wellFormed = never-12;
   }

@@ -1,24 +1,21 @@
 -- What every link reached keeps: one record for each side, joined by the payloads made so far and by how many packets have left their slots.
--- Each call moves one side; payloads are not assumed to be non-empty but where the sender says so.
+-- Each call moves one side, a consume of the window the store too; payloads are not assumed to be non-empty but where the sender says so.
 -- Assumes nothing.
-use Prim.Native.Nat.{ℕ, suc, _+_, _≤_, _<_}
+use Prim.Native.Nat.{ℕ, suc, _+_, _-_, _≤_, _<_}
 use mathlib.Core.Path.{_≡_}
 use mathlib.Core.Bool.{true, false}
 use mathlib.Core.Option.{some}
 use mathlib.Core.List.{List, [], _∷_, _++_, map, flatten}
-use lib.ListN.{length, take, getElem?}
+use lib.ListN.{length, take, drop, getElem?}
 use Rattle.lists.specs.Numbers.{largest}
-use Rattle.packet.specs.Packet.{Packet}
+use Rattle.packet.specs.Packet.{Packet, joined}
+use Rattle.outstanding.specs.Outstanding.{Store, numbersOf, lengthsOf, bytesOf, wellFormedBelow, numberIn, lengthIn}
 use Rattle.writer.specs.Packing.{payloadSize, sum}
 use Rattle.ordered_bytes.specs.Receiver.{isHeld, placeAt}
 use Rattle.ordered_bytes.specs.Buffer as buffer
 use Rattle.window.specs.Window as window
 use Rattle.rtt.specs.Rtt as rtt
-use Rattle.link.specs.Demand3.{SenderSide, Ack, ReceiverSide, WindowSide, Link, All}
-
--- a packet's number and payload: what "same number, same payload" speaks of
-abbrev pub key : Packet → ℕ × List ℕ
-key p = (p .header .«packet_number», p .payload)
+use Rattle.link.specs.Demand3.{SenderSide, Ack, ReceiverSide, WindowSide, Link, All, key}
 
 -- payloads numbered from n on
 unfoldable pub numberedFrom : ℕ → List (List ℕ) → List (ℕ × List ℕ)
@@ -35,6 +32,13 @@ pub record SenderKeeps (s : ℕ) (payloads : List (List ℕ)) (d : SenderSide) :
   pub unclosed : d .closing ≡ false → d .next ≡ s + length payloads
   pub above : s + length payloads ≤ d .next
   pub fits : d .next ≤ largest
+
+-- the store has these packets, whole, and all are numbered below the next number
+pub record StoreKeeps (next : ℕ) (packets : List Packet) (k : Store) : Type 0 where
+  pub well : wellFormedBelow next k ≡ true
+  pub numbers : numbersOf k ≡ map numberIn packets
+  pub lengths : lengthsOf k ≡ map lengthIn packets
+  pub bytes : bytesOf k ≡ joined packets
 
 -- an ack of packets from s on, all below f
 abbrev pub Below : ℕ → ℕ → Ack → Type 0
@@ -65,6 +69,8 @@ pub record Keeps (s : ℕ) (l : Link) : Type 0 where
   pub payloads : List (List ℕ)
   pub gone : ℕ
   pub sender : SenderKeeps s payloads (l .sender)
+  -- what was made before the number that the window expects has been dropped
+  pub store : StoreKeeps (l .sender .next) (drop (l .acked .expects - s) (l .sender .made)) (l .sender .kept)
   pub receiver : ReceiverKeeps s payloads gone (l .receiver)
   pub acked : WindowKeeps s (s + gone) (l .acked)
   pub trips : rtt.wellFormed (l .trips) ≡ true

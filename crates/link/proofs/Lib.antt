@@ -1,6 +1,7 @@
 pub mod All
 pub mod Runs
 pub mod Invariant
+pub mod Store
 pub mod Sender
 pub mod Receiver
 pub mod Window

@@ -4,7 +4,7 @@
 use Prim.Native.Nat.{ℕ, zero, suc, _+_, _-_, _≤_, _<_, zero-le, suc-le-suc}
 use mathlib.Core.Path.{_≡_, refl, sym, ap, _∙_}
 use mathlib.Core.Logic.{_⊎_, inl, inr}
-use mathlib.Core.Bool.{true, or-true}
+use mathlib.Core.Bool.{true, or-true, true≢false}
 use mathlib.Core.Option.{Option, none, some}
 use mathlib.Core.List.{List, [], _∷_, _++_, append-assoc, append-nil, flatten}
 use native.Mathlib.Omega.{arith}
@@ -12,8 +12,10 @@ use native.Mathlib.Decide.{ℕ-discrete}
 use native.Mathlib.Nat.{add-zero, add-assoc, le-refl}
 use lib.ListN.{length, take, drop, set, getD, replicate, getElem?, length-append, length-drop}
 use lib.Seq.{take-add, take-append-le, getD-set-same, getD-set-other}
-use borrow.Author.Tests.{eq-eqb, ne-eqb}
+use borrow.Author.Tests.{ltb-true, eq-eqb, ne-eqb}
 use Rattle.refusal.specs.Said.{answers, refuses, refusalIn}
+use Rattle.refusal.proofs.Checks.{Failed}
+use Rattle.refusal.proofs.Among.{never, failed-among}
 use Rattle.lists.specs.Numbers.{largest}
 use Rattle.lists.proofs.Pad.{getD-all, getD-moved}
 use Rattle.lists.proofs.Flatten.{flatten-append}
@@ -21,9 +23,9 @@ use Rattle.lists.proofs.Lookup.{lookup-append, lookup-drop}
 use Rattle.packet.specs.Packet.{Packet}
 use Rattle.packet.proofs.Walk.{parse-well}
 use Rattle.ordered_bytes.specs.declared.OrderedBytes.{OrderedBytes}
-use Rattle.ordered_bytes.specs.Receiver.{Receiver, isHeld, placeAt, accepted, payloads, consumed}
+use Rattle.ordered_bytes.specs.Receiver.{Receiver, isHeld, placeAt, acceptChecks, accepted, payloads, consumed}
 use Rattle.ordered_bytes.specs.Buffer.{Buffer, view, wellFormed}
-use Rattle.ordered_bytes.specs.Calls.{creating, accepting, consuming, consumingBytes}
+use Rattle.ordered_bytes.specs.Calls.{creating, ackWith, accepting, consuming, consumingBytes}
 use Rattle.lists.proofs.Order.{either}
 use Rattle.ordered_bytes.proofs.View as buffer
 use Rattle.ordered_bytes.proofs.View.{view-fresh, length-held}
@@ -36,7 +38,7 @@ use Rattle.ordered_bytes.proofs.Reading.{accept-stores, Takes, Gives, Dry, Empt
 use Rattle.ordered_bytes.proofs.Reading.{consume-bytes-gives, consume-bytes-refused, consume-bytes-dry, weight, consume-lowers, consume-bytes-lowers}
 use Rattle.window.specs.Window.{member}
 use Rattle.link.specs.Demand3.{ReceiverSide, ReceiverCall, Parser, from-bytes, from-bytes-into, parsing, arrive, read, read-pieces, peek, Ack, Link, Memory, Call, on-receiver, Called, fresh}
-use Rattle.link.specs.Demand3.{withBuffer, withAccepted, withDelivered, withAcks, withCounted, acceptedOne, acceptedAll, acceptRefusals, ackOf, gave, callReceiver}
+use Rattle.link.specs.Demand3.{withBuffer, withAccepted, withDelivered, withAcks, withCounted, ackOf, ackAt5, acceptedOne, acceptedAll, acceptRefusals, gave, callReceiver}
 use Rattle.link.specs.Demand3.{indexedOn, refusals, step, run, In, All, MadeEarlier, FairReceiver, Reads, reads, reads-pieces, Stops}
 use Rattle.link.proofs.All.{only, all-map, all-drop, all-append, all-among}
 use Rattle.link.proofs.Invariant.{Below, ReceiverKeeps}
@@ -110,6 +112,12 @@ receiver-extends {made = made} {k = k} more keeps = record {
 
 -- ---- accepting
 
+-- an ack of c numbers from s on, all below f
+ack-below : (s f base c : ℕ) → s ≤ base → base + c ≤ f → All (Below s f) (ackOf base c)
+unfolding All
+ack-below s f base zero low high = tt
+ack-below s f base (suc c) low high = ((low, high), tt)
+
 -- a packet whose payload is the one made with its number, where those made are numbered from s on
 abbrev pub Numbered : ℕ → List (List ℕ) → Packet → Type 0
 Numbered s made p =
@@ -135,7 +143,7 @@ module _ (h : List (Option (List ℕ))) (i : ℕ) (payload : List ℕ) (near : i
         | no q ↦ agrees j p (sym (getD-set-other h i j (some payload) none q) ∙ held)
       ]
 
-front-of : (b : Buffer) → view b .front ≡ b .state .«front_number»
+pub front-of : (b : Buffer) → view b .front ≡ b .state .«front_number»
 unfolding view
 front-of b = refl
 
@@ -166,17 +174,44 @@ module _ {s : ℕ} {made : List (List ℕ)} {k : ℕ} where
         acks = keeps .acks;
       }
 
-  accept-keeps : {d : ReceiverSide} (p : Packet) → Numbered s made p → ReceiverKeeps s made k d → ReceiverKeeps s made k (acceptedOne p d)
+  acked-keeps : {d : ReceiverSide} (acks : List Ack) → All (Below s (s + k)) acks → ReceiverKeeps s made k d → ReceiverKeeps s made k (withAcks acks d)
+  acked-keeps acks all keeps = record {
+    good = keeps .good;
+    front = keeps .front;
+    within = keeps .within;
+    counts = keeps .counts;
+    flow = keeps .flow;
+    below = keeps .below;
+    marks = keeps .marks;
+    agrees = keeps .agrees;
+    acks = all;
+  }
+
+  -- a refusal that gives an ack is 5, and then the number is below the front
+  refusal-acks : {d : ReceiverSide} (n r : ℕ) (payload : List ℕ) → s ≤ n → Failed (acceptChecks (view (d .buffer)) n payload) r → ReceiverKeeps s made k d
+      → All (Below s (s + k)) (ackAt5 (ackWith r n))
+  unfolding All
+  refusal-acks {d} n r payload low (inl (t, q)) keeps =
+      let less = ltb-true n (view (d .buffer) .front) t in
+      rw (← q) (ack-below s (s + k) n 1 low (omega (arith, keeps .front, front-of (d .buffer))))
+  refusal-acks {d} n r payload low (inr (t, f)) keeps = rw (ne-eqb r 5 (never 5 refl (failed-among {ns = 6 ∷ 9 ∷ 7 ∷ 11 ∷ []} (drop 1 (acceptChecks (view (d .buffer)) n payload)) refl f))) tt
+
+  pub accept-keeps : {d : ReceiverSide} (p : Packet) → Numbered s made p → ReceiverKeeps s made k d → ReceiverKeeps s made k (acceptedOne p d)
+  unfolding All
   accept-keeps {d} p numbered keeps = by (accept-ways (d .buffer) (p .header .«packet_number») (p .payload))
     where
       by : Accepting (d .buffer) (p .header .«packet_number») (p .payload) → ReceiverKeeps s made k (acceptedOne p d)
-      by (malformed m e) = rw e keeps
-      by (refused r g f e) = rw e keeps
+      by (malformed m e) = absurd (true≢false (sym (keeps .good) ∙ m))
+      by (refused r g f e) =
+          let n = p .header .«packet_number» in
+          rw e
+          (acked-keeps (d .acks ++ ackAt5 (ackWith r n)) (all-append (Below s (s + k)) (d .acks) _ (keeps .acks) (refusal-acks n r (p .payload) (numbered .0) f keeps)) keeps)
       by (stores a e) =
           let n = p .header .«packet_number» in
           let said : accepting (d .buffer) n (p .payload) .said ≡ answers tt = rw e in
-          rw said
-          (stored-keeps (numbered .1) keeps a (accept-stores (d .buffer) n (p .payload) said .1) (accept-kept (d .buffer) n (p .payload) (numbered .2) (keeps .good)))
+          let kept = stored-keeps (numbered .1) keeps a (accept-stores (d .buffer) n (p .payload) said .1) (accept-kept (d .buffer) n (p .payload) (numbered .2) (keeps .good)) in
+          let no-ack : accepting (d .buffer) n (p .payload) .ack ≡ none = rw e in
+          rw (said, no-ack, append-nil) kept
 
   accept-all-keeps : (packets : List Packet) {d : ReceiverSide} → All (Numbered s made) packets → ReceiverKeeps s made k d → ReceiverKeeps s made k (acceptedAll packets d)
   unfolding All acceptedAll
@@ -197,17 +232,34 @@ pub record Later (s : ℕ) (made : List (List ℕ)) (k : ℕ) (d : ReceiverSide)
   pub up : k ≤ gone
   pub keeps : ReceiverKeeps s made gone d
 
+-- acks that follow one another from f to g
+unfoldable pub Chain : ℕ → List Ack → ℕ → Type 0
+Chain f [] g = f ≡ g
+Chain f (a ∷ l) g = (a .base ≡ f) × (0 < a .count) × Chain (f + a .count) l g
+
+-- what a read leaves besides: the acks that it gave follow one another from the front to where it is then, and nothing was accepted
+pub record ReadOn (s : ℕ) (made : List (List ℕ)) (k : ℕ) (before d : ReceiverSide) : Type 0 where
+  pub later : Later s made k d
+  pub new : List Ack
+  pub acked : d .acks ≡ before .acks ++ new
+  pub chain : Chain (s + k) new (s + later .gone)
+  pub same : d .accepted ≡ before .accepted
+
+chain-ack : (f c base : ℕ) → (0 < c → base ≡ f) → Chain f (ackOf base c) (f + c)
+unfolding Chain
+chain-ack f zero base first = omega arith
+chain-ack f (suc c) base first = (first (suc-le-suc zero-le), suc-le-suc zero-le, refl)
+
 -- as the front moves on by c
 acks-stay : (s k c : ℕ) (acks : List Ack) → All (Below s (s + k)) acks → All (Below s (s + (k + c))) acks
 acks-stay s k c acks all = all-map (λ a h. (h .0, omega (arith, h .1))) acks all
 
 -- and beside them that of the c packets
 acks-grow : (s k c base : ℕ) (acks : List Ack) → (0 < c → base ≡ s + k) → All (Below s (s + k)) acks → All (Below s (s + (k + c))) (acks ++ ackOf base c)
-unfolding All
 acks-grow s k zero base acks first all = rw append-nil (acks-stay s k 0 acks all)
 acks-grow s k (suc c) base acks first all =
     let here = first (suc-le-suc zero-le) in
-    all-append (Below s (s + (k + suc c))) acks (ackOf base (suc c)) (acks-stay s k (suc c) acks all) ((omega arith, omega arith), tt)
+    all-append (Below s (s + (k + suc c))) acks (ackOf base (suc c)) (acks-stay s k (suc c) acks all) (ack-below s (s + (k + suc c)) base (suc c) (omega arith) (omega arith))
 
 -- a read of length 0 takes no packet
 idle-front : (b : Buffer) (out : List ℕ) → consuming b 0 out .buffer .state .«front_number» ≡ b .state .«front_number»
@@ -254,14 +306,22 @@ module _ {s : ℕ} {made : List (List ℕ)} {k : ℕ} {d : ReceiverSide} (keeps 
         acks = below;
       }
 
-  gives-keeps : {v : ℕ × ℕ × ℕ} {out out′ : List ℕ} {after : Buffer} → Gives (d .buffer) out v after out′ → wellFormed after ≡ true → Later s made k (gave v after out′ d)
-  gives-keeps {v} {out} {out′} {after} g well = record {
-    gone = k + v .0;
-    up = omega arith;
-    keeps =
-        takes-keeps (d .acks ++ ackOf (v .1) (v .0)) (d .counted + v .0) (g .takes) well
-        (acks-grow s k (v .0) (v .1) (d .acks) (λ taken. g .first taken ∙ front-of (d .buffer) ∙ keeps .front) (keeps .acks)) (rw (keeps .counts));
-  }
+  gives-keeps : {v : ℕ × ℕ × ℕ} {out out′ : List ℕ} {after : Buffer} → Gives (d .buffer) out v after out′ → wellFormed after ≡ true → ReadOn s made k d (gave v after out′ d)
+  gives-keeps {v} {out} {out′} {after} g well =
+      let first : 0 < v .0 → v .1 ≡ s + k = λ taken. g .first taken ∙ front-of (d .buffer) ∙ keeps .front in
+      record {
+        later = record {
+          gone = k + v .0;
+          up = omega arith;
+          keeps =
+              takes-keeps (d .acks ++ ackOf (v .1) (v .0)) (d .counted + v .0) (g .takes) well
+              (acks-grow s k (v .0) (v .1) (d .acks) first (keeps .acks)) (rw (keeps .counts));
+        };
+        new = ackOf (v .1) (v .0);
+        acked = refl;
+        chain = rw (← add-assoc) (chain-ack (s + k) (v .0) (v .1) first);
+        same = refl;
+      }
 
   -- nothing given and nothing carried over: no packet was taken, where none made is empty
   dry-takes : {c : ℕ} {after : Buffer} → All (λ p. 0 < length p) made → Takes (d .buffer) c [] after → view after .carry ≡ [] → c ≡ 0
@@ -271,12 +331,19 @@ module _ {s : ℕ} {made : List (List ℕ)} {k : ℕ} {d : ReceiverSide} (keeps 
       let nil : view b .carry ++ flatten (take c (drop k made)) ≡ [] = rw (next .0) at (sym (t .flow) ∙ dry) in
       omega (arith, ap length nil, length-append (view b .carry) (flatten (take c (drop k made))), filled-flatten c (drop k made) (all-drop (λ p. 0 < length p) k made filled) (next .1))
 
-  empties-keeps : {after : Buffer} (e : Empties (d .buffer) after) → e .packets ≡ 0 → wellFormed after ≡ true → Later s made k (withBuffer after d)
+  empties-keeps : {after : Buffer} (e : Empties (d .buffer) after) → e .packets ≡ 0 → wellFormed after ≡ true → ReadOn s made k d (withBuffer after d)
+  unfolding Chain
   empties-keeps {after} e z well = record {
-    gone = k + e .packets;
-    up = omega arith;
-    keeps =
-        rw append-nil at (takes-keeps (d .acks) (d .counted) (e .takes) well (acks-stay s k (e .packets) (d .acks) (keeps .acks)) (omega (arith, keeps .counts)));
+    later = record {
+      gone = k + e .packets;
+      up = omega arith;
+      keeps =
+          rw append-nil at (takes-keeps (d .acks) (d .counted) (e .takes) well (acks-stay s k (e .packets) (d .acks) (keeps .acks)) (omega (arith, keeps .counts)));
+    };
+    new = [];
+    acked = sym (append-nil (d .acks));
+    chain = omega arith;
+    same = refl;
   }
 
   -- an 8 takes no packet, where none made is empty
@@ -291,24 +358,28 @@ module _ {s : ℕ} {made : List (List ℕ)} {k : ℕ} {d : ReceiverSide} (keeps 
   stay : Later s made k d
   stay = record { gone = k; up = le-refl k; keeps = keeps }
 
-  read-keeps : All (λ p. 0 < length p) made → (len : ℕ) (out : List ℕ) → Later s made k (callReceiver d (read len out) .left)
+  pub read-none : ReadOn s made k d d
+  unfolding Chain stay
+  read-none = record { later = stay; new = []; acked = sym (append-nil (d .acks)); chain = refl; same = refl }
+
+  pub read-keeps : All (λ p. 0 < length p) made → (len : ℕ) (out : List ℕ) → ReadOn s made k d (callReceiver d (read len out) .left)
   read-keeps filled len out = by (consume-ends (d .buffer) (keeps .good) len out)
     where
       well : wellFormed (consuming (d .buffer) len out .buffer) ≡ true
       well = consume-kept (d .buffer) len out (keeps .good)
 
-      by : Ends (consuming (d .buffer) len out .said) → Later s made k (callReceiver d (read len out) .left)
+      by : Ends (consuming (d .buffer) len out .said) → ReadOn s made k d (callReceiver d (read len out) .left)
       by (values v e) = rw e (gives-keeps (consume-gives (d .buffer) len out e) well)
       by (eight e) = rw e (empties-keeps (consume-empty (d .buffer) len out e .0) (eight-takes filled len out e) well)
-      by (ten e) = rw (e, consume-refused (d .buffer) len out e (λ q. omega arith) .0) stay
+      by (ten e) = rw (e, consume-refused (d .buffer) len out e (λ q. omega arith) .0) read-none
 
-  read-pieces-keeps : (limit : ℕ) (out list : List ℕ) → Later s made k (callReceiver d (read-pieces limit out list) .left)
+  pub read-pieces-keeps : (limit : ℕ) (out list : List ℕ) → ReadOn s made k d (callReceiver d (read-pieces limit out list) .left)
   read-pieces-keeps limit out list = by (consume-bytes-ends (d .buffer) (keeps .good) limit out list)
     where
-      by : Ends (consumingBytes (d .buffer) limit out list .said) → Later s made k (callReceiver d (read-pieces limit out list) .left)
+      by : Ends (consumingBytes (d .buffer) limit out list .said) → ReadOn s made k d (callReceiver d (read-pieces limit out list) .left)
       by (values v e) = rw e (gives-keeps (consume-bytes-gives (d .buffer) limit out list e) (consume-bytes-kept (d .buffer) limit out list (keeps .good)))
-      by (eight e) = rw (e, consume-bytes-refused (d .buffer) limit out list e .0) stay
-      by (ten e) = rw (e, consume-bytes-refused (d .buffer) limit out list e .0) stay
+      by (eight e) = rw (e, consume-bytes-refused (d .buffer) limit out list e .0) read-none
+      by (ten e) = rw (e, consume-bytes-refused (d .buffer) limit out list e .0) read-none
 
 -- ---- every call
 
@@ -333,9 +404,9 @@ module _ {s : ℕ} {made : List (List ℕ)} {k : ℕ} (l : Link) (keeps : Receiv
       never (inl e) arrived = never-parsed parser datagram index (sym e)
       never (inr h) arrived = accept-all-well packets arrived keeps h
   receiver-does (read len out) filled numbered fair =
-      record { later = read-keeps keeps filled len out; never12 = λ h. consume-never (l .receiver .buffer) (keeps .good) len out (sym (only h)) }
+      record { later = read-keeps keeps filled len out .later; never12 = λ h. consume-never (l .receiver .buffer) (keeps .good) len out (sym (only h)) }
   receiver-does (read-pieces limit out list) filled numbered fair =
-      record { later = read-pieces-keeps keeps limit out list; never12 = λ h. consume-bytes-never (l .receiver .buffer) (keeps .good) limit out list (sym (only h)) }
+      record { later = read-pieces-keeps keeps limit out list .later; never12 = λ h. consume-bytes-never (l .receiver .buffer) (keeps .good) limit out list (sym (only h)) }
   receiver-does peek filled numbered fair = record { later = stay keeps; never12 = λ h. peek-never (l .receiver .buffer) (keeps .good) (sym (only h)) }
 
 -- ---- reading to empty

@@ -8,11 +8,13 @@ use mathlib.Core.Bool.{true, false, false≢true}
 use mathlib.Core.List.{List, [], _∷_, _++_, map, flatten}
 use lib.Dec.{lit≤, lit<}
 use lib.ListN.{take, replicate}
-use Rattle.refusal.specs.Said.{Said, answers}
+use Rattle.refusal.specs.Said.{answers}
 use Rattle.header.specs.Header.{headerAt, headerBytes}
 use Rattle.packet.specs.Packet.{Packet, joined}
 use Rattle.packet.specs.Datagram.{readingLimit, payloadMissing, walkBy, packetsOf, flat, parsed, packetAt, listed}
-use Rattle.writer.specs.Packing.{payloadSize, byteLimit, cut, numbered, dataPacket, removal, shortened, sum, packing}
+use Rattle.outstanding.specs.Outstanding as store
+use Rattle.writer.specs.Packing.{payloadSize, byteLimit, cut, numbered, dataPacket, removal, shortened, sum}
+use Rattle.writer.specs.Sending.{Sending, consumesData}
 use Rattle.writer.specs.declared.DataPacked.{DataPacked}
 use Rattle.ordered_bytes.specs.Receiver as receiver
 use Rattle.ordered_bytes.specs.Buffer as buffer
@@ -20,9 +22,9 @@ use Rattle.ordered_bytes.specs.Calls.{creating, accepting, peeking, consuming, 
 use Rattle.ordered_bytes.specs.declared.OrderedBytes.{OrderedBytes}
 use Rattle.window.specs.Window as window
 use Rattle.rtt.specs.Rtt.{sampling, waiting}
-use Rattle.link.specs.Demand3.{Link, Memory, Call, enqueue, pack, reserve, arrive, read, read-pieces, peek, insert, insert-range, consume-window, sample, wait-time}
+use Rattle.link.specs.Demand3.{Link, Memory, Call, enqueue, pack, reserve, list-outstanding, arrive, read, read-pieces, peek, insert, insert-range, consume-window, sample, wait-time}
 use Rattle.link.specs.Demand3.{on-sender, on-receiver, on-window, on-trips, from-bytes, from-bytes-into, fresh, step, run, packingOf, Fairly, Premises, All, In, dataOf}
-use Rattle.link.specs.Demand3.{acceptedAll, MadeEarlier, acceptRefusals, refusals, Accepted}
+use Rattle.link.specs.Demand3.{acceptedAll, MadeEarlier, acceptRefusals, refusals, Accepted, numberedOn, outstandingOn}
 use Rattle.link.proofs.Runs.{fairly-append, fairly-before}
 
 -- ---- the run
@@ -31,12 +33,20 @@ use Rattle.link.proofs.Runs.{fairly-append, fairly-before}
 abbrev pub s : ℕ
 s = 4294967303
 
--- three slots of 1,500 bytes
+-- three slots of 1,500 bytes, three cells, and room for 64 packets
 abbrev pub state : OrderedBytes
 state = record { «slot_width» = 1500; «front_slot» = 0; «front_number» = s; «carry_len» = 0 }
 
 abbrev pub memory : Memory
-memory = record { marks = true ∷ false ∷ true ∷ []; lengths = 5 ∷ 6 ∷ 7 ∷ []; store = replicate 6000 0; cells = 8 ∷ 8 ∷ 8 ∷ [] }
+memory = record {
+  marks = true ∷ false ∷ true ∷ [];
+  lengths = 5 ∷ 6 ∷ 7 ∷ [];
+  store = replicate 6000 0;
+  cells = 8 ∷ 8 ∷ 8 ∷ [];
+  numbers = replicate 64 7;
+  payloadLengths = replicate 64 8;
+  packets = replicate 97280 8;
+}
 
 abbrev pub first : Link
 first = fresh s 1500 state memory
@@ -54,7 +64,7 @@ packetC = dataPacket 1 2 (s + 2) (8 ∷ [])
 abbrev pub bytes : List ℕ
 bytes = 1 ∷ 2 ∷ 3 ∷ 4 ∷ 5 ∷ 6 ∷ 7 ∷ 8 ∷ []
 
--- the first packing has no room
+-- the first packing has no room, and the listing has just enough
 abbrev pub sending : List Call
 sending = map on-sender (
     enqueue ((1 ∷ 2 ∷ []) ∷ [] ∷ (3 ∷ 4 ∷ []) ∷ [])
@@ -64,6 +74,7 @@ sending = map on-sender (
     ∷ pack 1 2 (replicate 30 9)
     ∷ enqueue ((8 ∷ []) ∷ [])
     ∷ pack 1 2 (replicate 21 0)
+    ∷ list-outstanding (replicate 68 0)
     ∷ []
     )
 
@@ -141,12 +152,12 @@ packing-A = run first (map on-sender (enqueue ((1 ∷ 2 ∷ []) ∷ [] ∷ (3 �
 abbrev pub packed-A : DataPacked
 packed-A = record { bytes = 4; packets = 1; «next_packet_num» = s + 1; «entries_removed» = 3; «bytes_cut» = 0 }
 
-abbrev pub output-A : Said DataPacked × List ℕ
+abbrev pub output-A : Sending
 output-A = packingOf (packing-A .sender) 1 2 (replicate 24 0)
 
 -- .. and the bytes that it wrote
 abbrev pub written-A : List ℕ
-written-A = take 24 (output-A .1)
+written-A = take 24 (output-A .out)
 
 -- the numbers that have entered
 abbrev pub entered : List ℕ
@@ -159,11 +170,12 @@ unfoldable pub trace : Link → List Call → List (List ℕ)
 trace l [] = []
 trace l (c ∷ cs) = refusals l c ∷ trace (step l c) cs
 
--- each part keeps the premises, and both reads that took packets give an ack; part by part, what each call is refused with; the read at the hole says 8, with
--- two packets accepted behind it; all eight bytes are queued and covered; three packets are counted; the trips come to S = 650 and V = 130;
--- the last read says 8; packet A is the first made
-pub record Computed : Type 0 where
+-- in several parts, since what computes one is let go before the next
+
+-- each part keeps the premises, and both reads that took packets give an ack
+pub record Premised : Type 0 where
   pub new : creating 1500 s (memory .marks) (memory .lengths) (memory .store) .said ≡ answers state
+  pub room : store.roomy (memory .numbers) (memory .payloadLengths) (memory .packets) ≡ true
   pub sends : Fairly first sending
   pub arrives : Fairly sent arriving
   pub reads : Fairly arrived reading
@@ -172,41 +184,56 @@ pub record Computed : Type 0 where
   pub consumes : Fairly (run first beforeConsume) (on-window consume-window ∷ [])
   pub closes : Fairly consumed closing
   pub ends : Fairly (run first beforeLast) (last ∷ [])
+
+-- part by part, what each call is refused with; the read at the hole says 8, and so does the last
+pub record Refusing : Type 0 where
   pub refused : trace first calls
-      ≡ ([] ∷ (10 ∷ []) ∷ (0 ∷ []) ∷ [] ∷ (0 ∷ []) ∷ [] ∷ (0 ∷ []) ∷ [])
+      ≡ ([] ∷ (10 ∷ []) ∷ (0 ∷ []) ∷ [] ∷ (0 ∷ []) ∷ [] ∷ (0 ∷ []) ∷ (0 ∷ []) ∷ [])
       ++ ((0 ∷ 0 ∷ 0 ∷ []) ∷ (8 ∷ []) ∷ (8 ∷ []) ∷ (0 ∷ 0 ∷ []) ∷ (0 ∷ []) ∷ [])
       ++ ((0 ∷ []) ∷ (10 ∷ []) ∷ (0 ∷ []) ∷ [])
       ++ ((0 ∷ []) ∷ (7 ∷ []) ∷ (0 ∷ []) ∷ [])
-      ++ ((0 ∷ []) ∷ [])
+      ++ ((0 ∷ 0 ∷ []) ∷ [])
       ++ ((0 ∷ []) ∷ (0 ∷ []) ∷ (14 ∷ []) ∷ (0 ∷ []) ∷ (0 ∷ []) ∷ [])
       ++ ((0 ∷ []) ∷ (0 ∷ []) ∷ (0 ∷ 5 ∷ []) ∷ [])
       ++ ((8 ∷ []) ∷ [])
   pub atHole : In 8 (refusals (run first beforeHole) readAtHole)
+  pub empty : In 8 (refusals (run first beforeLast) last)
+
+-- at the hole two packets are accepted behind it and all three outstanding; all eight bytes are queued and covered; three packets are counted, and none is
+-- outstanding once the window was consumed; packet A, which comes again, gives an ack again; the trips come to S = 650 and V = 130
+pub record Holds : Type 0 where
   pub behind : holed .receiver .accepted ≡ (s + 1) ∷ (s + 2) ∷ []
+  pub outstanding : outstandingOn holed ≡ packetA ∷ packetB ∷ packetC ∷ []
   pub queued : run first calls .sender .queued ≡ bytes
   pub accepted : Accepted (run first calls) s ((1 ∷ 2 ∷ 3 ∷ 4 ∷ []) ∷ (5 ∷ 6 ∷ 7 ∷ []) ∷ (8 ∷ []) ∷ [])
-  pub empty : In 8 (refusals (run first beforeLast) last)
   pub counted : consumed .receiver .counted ≡ 3
   pub entered : consumed .acked .entered ≡ entered
+  pub answered : outstandingOn consumed ≡ []
+  pub ackedAgain : run first beforeLast .receiver .acks ≡ record { base = s; count = 2 } ∷ record { base = s + 2; count = 1 } ∷ record { base = s; count = 1 } ∷ []
   pub measured : run first beforeLast .trips ≡ record { smoothed = 650; variation = 130; sampled = true }
-  pub packs : output-A .0 ≡ answers packed-A
+
+-- packet A is the first made
+pub record PacksA : Type 0 where
+  pub packs : output-A .said ≡ answers packed-A
   pub makes : packing-A .sender .made ≡ []
   pub made : step packing-A (on-sender (pack 1 2 (replicate 24 0))) .sender .made ≡ packetA ∷ []
 
-itself : {l : Link} (p : Packet) → In p (l .sender .made) → MadeEarlier l p
+pub itself : {l : Link} (p : Packet) → In p (l .sender .made) → MadeEarlier l p
 itself p made = record { original = p; made = made; number = refl; payload = refl }
 
-unreserved : {A : Type 0} → false ≡ true → A
+pub unreserved : {A : Type 0} → false ≡ true → A
 unreserved e = absurd (false≢true e)
 
-pub computed : Computed
-unfolding run trace Fairly All In dataOf acceptedAll acceptRefusals Accepted headerAt headerBytes joined readingLimit payloadMissing walkBy packetsOf flat parsed packetAt listed payloadSize byteLimit
-    cut numbered removal shortened sum packing receiver.walk receiver.consumed receiver.payloads receiver.numbersFit buffer.view buffer.allWithin buffer.wellFormed
+pub premised : Premised
+unfolding run trace Fairly All In dataOf acceptedAll acceptRefusals Accepted numberedOn headerAt headerBytes joined readingLimit payloadMissing walkBy packetsOf flat parsed packetAt listed payloadSize byteLimit
+    cut numbered removal shortened sum consumesData store.places store.size store.wellFormed store.allBelow store.wellFormedBelow store.keeping store.upTo store.without store.answering
+    store.listing receiver.walk receiver.consumed receiver.payloads receiver.numbersFit buffer.view buffer.allWithin buffer.wellFormed
     creating accepting peeking consuming consumingBytes flatten window.member window.rising window.allHoldable window.wellFormed window.place window.numbers
     window.insertPacketNumber window.beforeHeld window.insertRange window.runLength window.consume sampling waiting
-computed = record {
+premised = record {
   new = refl;
-  sends = (tt, (unreserved, (unreserved, (tt, (unreserved, (tt, (unreserved, tt)))))));
+  room = refl;
+  sends = (tt, (unreserved, (unreserved, (tt, (unreserved, (tt, (unreserved, (tt, tt))))))));
   arrives = (
     ((itself packetB (inr (inl refl)), (itself packetC (inr (inr (inl refl))), tt)), (inr (inl refl), (inl refl, tt))),
     (tt, (tt, (((itself packetA (inl refl), tt), (inl refl, tt)), (tt, tt)))),
@@ -223,9 +250,29 @@ computed = record {
   consumes = (tt, tt);
   closes = (tt, (tt, (tt, (tt, (tt, (tt, (λ e. refl, (((itself packetA (inl refl), tt), (inl refl, tt)), tt))))))));
   ends = (tt, tt);
+}
+
+pub refusing : Refusing
+unfolding run trace Fairly All In dataOf acceptedAll acceptRefusals Accepted numberedOn headerAt headerBytes joined readingLimit payloadMissing walkBy packetsOf flat parsed packetAt listed payloadSize byteLimit
+    cut numbered removal shortened sum consumesData store.places store.size store.wellFormed store.allBelow store.wellFormedBelow store.keeping store.upTo store.without store.answering
+    store.listing receiver.walk receiver.consumed receiver.payloads receiver.numbersFit buffer.view buffer.allWithin buffer.wellFormed
+    creating accepting peeking consuming consumingBytes flatten window.member window.rising window.allHoldable window.wellFormed window.place window.numbers
+    window.insertPacketNumber window.beforeHeld window.insertRange window.runLength window.consume sampling waiting
+refusing = record {
   refused = refl;
   atHole = inl refl;
+  empty = inl refl;
+}
+
+pub holds : Holds
+unfolding run trace Fairly All In dataOf acceptedAll acceptRefusals Accepted numberedOn headerAt headerBytes joined readingLimit payloadMissing walkBy packetsOf flat parsed packetAt listed payloadSize byteLimit
+    cut numbered removal shortened sum consumesData store.places store.size store.wellFormed store.allBelow store.wellFormedBelow store.keeping store.upTo store.without store.answering
+    store.listing receiver.walk receiver.consumed receiver.payloads receiver.numbersFit buffer.view buffer.allWithin buffer.wellFormed
+    creating accepting peeking consuming consumingBytes flatten window.member window.rising window.allHoldable window.wellFormed window.place window.numbers
+    window.insertPacketNumber window.beforeHeld window.insertRange window.runLength window.consume sampling waiting
+holds = record {
   behind = refl;
+  outstanding = refl;
   queued = refl;
   accepted = (
     record { packet = packetA; made = inl refl; number = refl; carries = refl },
@@ -236,10 +283,20 @@ computed = record {
       (record { packet = packetC; made = inr (inr (inl refl)); number = refl; carries = refl }, refl, tt),
     ),
   );
-  empty = inl refl;
   counted = refl;
   entered = refl;
+  answered = refl;
+  ackedAgain = refl;
   measured = refl;
+}
+
+pub packs-A : PacksA
+unfolding run trace Fairly All In dataOf acceptedAll acceptRefusals Accepted numberedOn headerAt headerBytes joined readingLimit payloadMissing walkBy packetsOf flat parsed packetAt listed payloadSize byteLimit
+    cut numbered removal shortened sum consumesData store.places store.size store.wellFormed store.allBelow store.wellFormedBelow store.keeping store.upTo store.without store.answering
+    store.listing receiver.walk receiver.consumed receiver.payloads receiver.numbersFit buffer.view buffer.allWithin buffer.wellFormed
+    creating accepting peeking consuming consumingBytes flatten window.member window.rising window.allHoldable window.wellFormed window.place window.numbers
+    window.insertPacketNumber window.beforeHeld window.insertRange window.runLength window.consume sampling waiting
+packs-A = record {
   packs = refl;
   makes = refl;
   made = refl;
@@ -250,14 +307,14 @@ computed = record {
 fair : Fairly first calls
 unfolding run
 fair =
-    let c = computed in
+    let c = premised in
     let read = fairly-append sent arriving (reading ++ entering) (c .arrives) (fairly-append arrived reading entering (c .reads) (c .enters)) in
     let consume = fairly-append first beforeConsume (on-window consume-window ∷ []) (fairly-append first sending (arriving ++ (reading ++ entering)) (c .sends) read) (c .consumes) in
     fairly-append first beforeLast (last ∷ []) (fairly-append first toConsume closing consume (c .closes)) (c .ends)
 
 meets : (list : List Call) → Fairly first list → Premises s 1500 state memory list
 unfolding payloadSize
-meets list f = record { start = lit≤ tt; new = computed .new; wide = lit≤ tt; fair = f }
+meets list f = record { start = lit≤ tt; new = premised .new; wide = lit≤ tt; room = premised .room; fair = f }
 
 pub meetsToHole : Premises s 1500 state memory toHole
 meetsToHole = meets toHole (fairly-before first toHole _ fair)

@@ -9,22 +9,23 @@ use mathlib.Core.Option.{some}
 use mathlib.Core.List.{List, [], _∷_, _++_, map, map-append, append-assoc, append-nil, flatten}
 use native.Mathlib.Nat.{add-zero, add-suc, suc-add}
 use native.Mathlib.Omega.{arith}
-use lib.ListN.{length, getElem?, length-append, take-append-drop}
+use lib.ListN.{length, drop, getElem?, length-append, take-append-drop}
 use lib.Dec.{leb}
 use borrow.Author.Tests.{leb-false}
 use Rattle.refusal.specs.Said.{Said, answers, refuses, refusalIn, checks}
 use Rattle.lists.specs.Numbers.{largest}
 use Rattle.lists.proofs.Flatten.{flatten-append}
 use Rattle.packet.specs.Packet.{Packet}
-use Rattle.writer.specs.Packing.{payloadSize, payloadsOf, numbered, sum}
-use Rattle.writer.specs.declared.DataPacked.{DataPacked}
-use Rattle.writer.proofs.Made.{payloads-joined, count-payloads, payload-some, payload-small, dequeued-adds-up}
-use Rattle.writer.proofs.Made.{length-numbered, Says, takes, stays, packing-says}
+use Rattle.writer.specs.Packing.{payloadSize, payloadsOf, numbered, packetsMade, sum}
+use Rattle.writer.specs.Sending.{Sending}
+use Rattle.writer.proofs.Made.{payloads-joined, count-payloads, payload-some, payload-small, dequeued-adds-up, length-numbered, count-made}
+use Rattle.writer.proofs.Sending.{made-keepable, Ways, sends, stays, ways}
 use Rattle.ordered_bytes.specs.declared.OrderedBytes.{OrderedBytes}
-use Rattle.link.specs.Demand3.{SenderSide, SenderCall, enqueue, pack, reserve, Link, Memory, fresh, Called, enqueued, limitOf, packedBy, reservedBy, callSender}
-use Rattle.link.specs.Demand3.{In, All, MadeEarlier, FairSender, Made}
+use Rattle.link.specs.Demand3.{SenderSide, SenderCall, enqueue, pack, reserve, list-outstanding, Link, Memory, fresh, Called, enqueued, limitOf, packedBy, reservedBy, callSender}
+use Rattle.link.specs.Demand3.{In, All, key, MadeEarlier, FairSender, Made}
 use Rattle.link.proofs.All.{only, all-append, all-getD}
-use Rattle.link.proofs.Invariant.{key, numberedFrom, SenderKeeps}
+use Rattle.link.proofs.Invariant.{numberedFrom, SenderKeeps, StoreKeeps}
+use Rattle.link.proofs.Store.{store-packs, store-up, list-never}
 
 -- ---- which number carries which payload
 
@@ -131,13 +132,14 @@ numbered-next false next n more same none = rw (same refl)
 numbered-next true next n [] same none = refl
 numbered-next true next n (p ∷ more) same none = absurd (omega (arith, none refl))
 
--- what a call keeps, which may add payloads to those made before it
-pub record SenderDoes (s : ℕ) (payloads : List (List ℕ)) (c : Called SenderSide) : Type 0 where
+-- what a call keeps, which may add payloads to those made before it, where the first x packets made have been answered
+pub record SenderDoes (s : ℕ) (payloads : List (List ℕ)) (x : ℕ) (c : Called SenderSide) : Type 0 where
   pub more : List (List ℕ)
   pub keeps : SenderKeeps s (payloads ++ more) (c .left)
+  pub store : StoreKeeps (c .left .next) (drop x (c .left .made)) (c .left .kept)
   pub never12 : In 12 (c .refusals) → ⊥
 
-module _ {s : ℕ} {payloads : List (List ℕ)} {d : SenderSide} (v : SenderKeeps s payloads d) where
+module _ {s : ℕ} {payloads : List (List ℕ)} {d : SenderSide} (v : SenderKeeps s payloads d) (x : ℕ) (store : StoreKeeps (d .next) (drop x (d .made)) (d .kept)) where
   enqueue-keeps : (entries : List (List ℕ)) → SenderKeeps s payloads (enqueued entries d)
   enqueue-keeps entries = record {
     made = v .made;
@@ -150,9 +152,9 @@ module _ {s : ℕ} {payloads : List (List ℕ)} {d : SenderSide} (v : SenderKeep
     fits = v .fits;
   }
 
-  pack-does : (src dst : ℕ) (out : List ℕ) → (d .closing ≡ true → callSender d (pack src dst out) .left .made ≡ d .made)
-      → SenderDoes s payloads (callSender d (pack src dst out))
-  pack-does src dst out fair = by _ (packing-says (limitOf d) (d .queue) (d .next) src dst out (v .addsUp)) fair
+  pack-does : x ≤ length (d .made) → (src dst : ℕ) (out : List ℕ) → (d .closing ≡ true → callSender d (pack src dst out) .left .made ≡ d .made)
+      → SenderDoes s payloads x (callSender d (pack src dst out))
+  pack-does answered src dst out fair = by _ (ways (d .kept) (d .queue) (d .next) src dst out (store .well) (v .addsUp)) fair
     where
       bytes : List ℕ
       bytes = d .queue .bytes
@@ -163,11 +165,13 @@ module _ {s : ℕ} {payloads : List (List ℕ)} {d : SenderSide} (v : SenderKeep
       none-made : d .made ++ numbered src dst (d .next) more ≡ d .made → length more ≡ 0
       none-made e = omega (arith, length-append (d .made) (numbered src dst (d .next) more), ap length e, length-numbered src dst (d .next) more)
 
-      by : (said : Said DataPacked) → Says (limitOf d) (d .queue) (d .next) said → (d .closing ≡ true → packedBy said src dst d .made ≡ d .made)
-          → SenderDoes s payloads (record { refusals = refusalIn said ∷ []; left = packedBy said src dst d })
-      by said (stays n other) fair = record { more = []; keeps = rw append-nil v; never12 = λ h. other (sym (only h)) }
-      by said (takes h) fair =
+      by : (o : Sending) → Ways (d .kept) (d .queue) (d .next) src dst out o → (d .closing ≡ true → packedBy (o .said) (o .store) src dst d .made ≡ d .made)
+          → SenderDoes s payloads x (record { refusals = refusalIn (o .said) ∷ []; left = packedBy (o .said) (o .store) src dst d })
+      by o (stays n other full) fair = record { more = []; keeps = rw append-nil v; store = store; never12 = λ h. other (sym (only h)) }
+      by o (sends few h) fair =
           let next = numbered-next (d .closing) (d .next) (s + length payloads) more (v .unclosed) (λ c. none-made (fair c)) in
+          let made = packetsMade (limitOf d) src dst (d .next) bytes in
+          let kept = store-packs x (d .made) made answered store (made-keepable (d .kept) src dst (d .next) bytes (store .well)) in
           record {
             more = more;
             keeps = record {
@@ -180,16 +184,17 @@ module _ {s : ℕ} {payloads : List (List ℕ)} {d : SenderSide} (v : SenderKeep
               above = rw (length-append, count-payloads) (omega arith);
               fits = h;
             };
+            store = rw (count-made (limitOf d) src dst (d .next) bytes) at kept;
             never12 = λ z. omega (arith, only z);
           }
 
-  reserve-does : SenderDoes s payloads (callSender d reserve)
+  reserve-does : SenderDoes s payloads x (callSender d reserve)
   reserve-does = by (leb largest (d .next)) refl
     where
       by : (exhausted : Bool) → leb largest (d .next) ≡ exhausted →
           let said : Said (ℕ × ℕ) = checks ((exhausted, 9) ∷ []) refuses (answers (d .next, d .next + 1)) in
-          SenderDoes s payloads (record { refusals = refusalIn said ∷ []; left = reservedBy said d })
-      by true t = record { more = []; keeps = rw append-nil v; never12 = λ h. omega (arith, only h) }
+          SenderDoes s payloads x (record { refusals = refusalIn said ∷ []; left = reservedBy said d })
+      by true t = record { more = []; keeps = rw append-nil v; store = store; never12 = λ h. omega (arith, only h) }
       by false t =
           let room = leb-false largest (d .next) t in
           record {
@@ -204,12 +209,15 @@ module _ {s : ℕ} {payloads : List (List ℕ)} {d : SenderSide} (v : SenderKeep
               above = omega (arith, v .above);
               fits = omega arith;
             };
+            store = store-up (d .next + 1) (omega arith) store;
             never12 = λ h. omega (arith, only h);
           }
 
-pub sender-does : {s : ℕ} {payloads : List (List ℕ)} (l : Link) (c : SenderCall) → SenderKeeps s payloads (l .sender) → FairSender l c
-    → SenderDoes s payloads (callSender (l .sender) c)
+pub sender-does : {s : ℕ} {payloads : List (List ℕ)} (x : ℕ) (l : Link) (c : SenderCall) → SenderKeeps s payloads (l .sender) → x ≤ length (l .sender .made)
+    → StoreKeeps (l .sender .next) (drop x (l .sender .made)) (l .sender .kept) → FairSender l c → SenderDoes s payloads x (callSender (l .sender) c)
 unfolding In
-sender-does l (enqueue entries) v fair = record { more = []; keeps = rw append-nil (enqueue-keeps v entries); never12 = λ h. h }
-sender-does l (pack src dst out) v fair = pack-does v src dst out fair
-sender-does l reserve v fair = reserve-does v
+sender-does x l (enqueue entries) v answered store fair = record { more = []; keeps = rw append-nil (enqueue-keeps v x store entries); store = store; never12 = λ h. h }
+sender-does x l (pack src dst out) v answered store fair = pack-does v x store answered src dst out fair
+sender-does x l reserve v answered store fair = reserve-does v x store
+sender-does x l (list-outstanding out) v answered store fair =
+    record { more = []; keeps = rw append-nil v; store = store; never12 = λ h. list-never store out (sym (only h)) }

@@ -24,7 +24,7 @@ use Rattle.link.proofs.Invariant.{WindowKeeps}
 
 -- ---- which numbers have entered
 
-member-entering : (n b k : ℕ) (xs : List ℕ) → member n (numbers b k ++ xs) ≡ (among b k n || member n xs)
+pub member-entering : (n b k : ℕ) (xs : List ℕ) → member n (numbers b k ++ xs) ≡ (among b k n || member n xs)
 member-entering n b k xs = rw (member-append n (numbers b k) xs, member-numbers n b k)
 
 -- ---- what the window's laws leave unsaid
@@ -63,7 +63,7 @@ window-extends l v = record {
 
 module _ {s f : ℕ} {d : WindowSide} (v : WindowKeeps s f d) where
   -- what is held has entered
-  held-entered : (n : ℕ) → member n (held (d .state) (d .cells)) ≡ true → member n (d .entered) ≡ true
+  pub held-entered : (n : ℕ) → member n (held (d .state) (d .cells)) ≡ true → member n (d .entered) ≡ true
   held-entered n m = sym (v .same n (held-above (d .state) (d .cells) n (v .good) m)) ∙ m
 
   -- ---- numbers are stored
@@ -95,7 +95,7 @@ module _ {s f : ℕ} {d : WindowSide} (v : WindowKeeps s f d) where
       by o (calls.refusal r q not-12) g = rw q v
 
   -- at 7 what enters is what was stored: from the smallest expected on, the first that had entered is the first held
-  range-keeps : (base count : ℕ) → base + count ≤ f → WindowKeeps s f (callWindow d (insert-range base count) .left)
+  pub range-keeps : (base count : ℕ) → base + count ≤ f → WindowKeeps s f (callWindow d (insert-range base count) .left)
   range-keeps base count l =
       let law = calls.range-law (d .state) (d .cells) (v .good) base count in
       by (insertRange (d .state) (d .cells) base count) (law .0) (law .1)
@@ -111,7 +111,7 @@ module _ {s f : ℕ} {d : WindowSide} (v : WindowKeeps s f d) where
 
   -- ---- the run is consumed
 
-  consume-keeps : WindowKeeps s f (callWindow d consume-window .left)
+  pub consume-keeps : WindowKeeps s f (callWindow d consume-window .left)
   consume-keeps =
       let law = calls.consume-law (d .state) (d .cells) (v .good) in
       by (consume (d .state) (d .cells)) (law .0) (law .1)

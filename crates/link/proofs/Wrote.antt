@@ -5,16 +5,16 @@ use Prim.Native.Nat.{ℕ, suc, _≤_}
 use mathlib.Core.Path.{_≡_, refl, sym, ap, _∙_}
 use mathlib.Core.List.{List, [], _∷_}
 use native.Mathlib.Omega.{arith}
-use native.Mathlib.Nat.{le-refl}
 use lib.ListN.{length}
 use Rattle.refusal.specs.Said.{answers}
 use Rattle.packet.specs.Packet.{Packet, joined}
 use Rattle.packet.specs.Datagram.{readingLimit, cellsIn, cellsWritten, parsesInto, parsed, listed}
 use Rattle.packet.proofs.Trip.{Readable, parsed-joined, listed-joined}
 use Rattle.packet.proofs.Index.{answered-all, listed-all, listed-parsed}
-use Rattle.writer.specs.Packing.{dataPacket, numbered, packetsMade}
+use Rattle.writer.specs.Packing.{dataPacket, numbered, packetsMade, Outcome, packing}
 use Rattle.writer.specs.declared.DataPacked.{DataPacked}
 use Rattle.writer.proofs.Made.{Answered, answered, made-counted, made-fits, made-readable, written-made}
+use Rattle.writer.proofs.Sending.{answered-packs}
 use Rattle.link.specs.Demand3.{SenderSide, limitOf, packingOf, Parser, from-bytes, from-bytes-into, dataOf, ReadsBack, Wrote}
 
 -- all packets made carry data
@@ -42,12 +42,15 @@ module _ {ps : List Packet} (r : Readable ps) (fits : length (joined ps) ≤ rea
       let all : cellsWritten (joined ps) index ≡ length ps = omega (arith, a .all, a .fits) in
       record { counts = counts-back; lists = lists-back; indexes = λ expected. rw all (ap dataOf lists-back ∙ all-data) }
 
-module _ (d : SenderSide) (src dst : ℕ) (out : List ℕ) (p : DataPacked) (e : packingOf d src dst out .0 ≡ answers p) where
+module _ (d : SenderSide) (src dst : ℕ) (out : List ℕ) (p : DataPacked) (e : packingOf d src dst out .said ≡ answers p) where
   made : List Packet
   made = packetsMade (limitOf d) src dst (d .next) (d .queue .bytes)
 
+  packs : packing (limitOf d) (d .queue) (d .next) src dst out ≡ (answers p, packingOf d src dst out .out)
+  packs = answered-packs (d .kept) (d .queue) (d .next) src dst out e
+
   did : Answered (limitOf d) (d .queue) (d .next) src dst out p
-  did = answered (limitOf d) (d .queue) (d .next) src dst out p e
+  did = answered (limitOf d) (d .queue) (d .next) src dst out p (ap (λ (o : Outcome). o .0) packs)
 
   pub wrote : Wrote d src dst out p
   unfolding made
@@ -57,9 +60,9 @@ module _ (d : SenderSide) (src dst : ℕ) (out : List ℕ) (p : DataPacked) (e :
         packets = made;
         counted = count;
         added = rw e;
-        written = written-made (limitOf d) (d .queue) (d .next) src dst out p did;
+        written = rw packs at (written-made (limitOf d) (d .queue) (d .next) src dst out p did);
         readBack = λ source destination some parser index room.
             reads-back (made-readable (limitOf d) (d .queue) (d .next) src dst out p did source destination some)
-            (made-fits (limitOf d) src dst (d .next) (d .queue .bytes) (le-refl (limitOf d)))
+            (made-fits (limitOf d) src dst (d .next) (d .queue .bytes) (omega arith))
             (data-numbered src dst (d .next) _) index (rw count room) parser;
       }

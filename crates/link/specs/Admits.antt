@@ -4,11 +4,12 @@ use Prim.Native.Nat.{ℕ, _+_, _≤_, _<_}
 use mathlib.Core.Path.{_≡_}
 use mathlib.Core.Bool.{false}
 use mathlib.Core.List.{List, [], _∷_, _++_, flatten}
+use lib.ListN.{length}
 use Rattle.refusal.specs.Said.{answers}
 use Rattle.packet.specs.Packet.{Packet}
 use Rattle.ordered_bytes.specs.Calls.{creating}
 use Rattle.ordered_bytes.specs.declared.OrderedBytes.{OrderedBytes}
-use Rattle.link.specs.Demand3.{Link, Ack, Memory, Parser, Call, enqueue, pack, reserve, arrive, read, read-pieces, peek, insert, insert-range, consume-window, sample, wait-time}
+use Rattle.link.specs.Demand3.{Link, Ack, Memory, Parser, Call, enqueue, pack, reserve, list-outstanding, arrive, read, read-pieces, peek, insert, insert-range, consume-window, sample, wait-time}
 use Rattle.link.specs.Demand3.{on-sender, on-receiver, on-window, on-trips, fresh, run, callSender, indexedOn, In, All, MadeEarlier, Fair, Fairly, Premises, refusals}
 use Rattle.link.specs.Demand3.{Accepted, Covered, ToEmpty}
 
@@ -23,6 +24,8 @@ pub record Admits : Type 0 where
   -- the window may be consumed, and a FIN's number reserved, at any time
   pub consumes : (l : Link) → Fair l (on-window consume-window)
   pub reserves : (l : Link) → Fair l (on-sender reserve)
+  -- so may the packets outstanding be listed (document 02, §3)
+  pub lists : (l : Link) (out : List ℕ) → Fair l (on-sender (list-outstanding out))
   -- any trip sampled, and the wait asked, at any time
   pub samples : (l : Link) (r : ℕ) → Fair l (on-trips (sample r))
   pub waits : (l : Link) → Fair l (on-trips wait-time)
@@ -37,12 +40,13 @@ pub record Admits : Type 0 where
   -- "(same number, same payload)"
   pub madeEarlier : (l : Link) (p made : Packet) → In made (l .sender .made)
       → p .header .«packet_number» ≡ made .header .«packet_number» → p .payload ≡ made .payload → MadeEarlier l p
-  -- "Acks come from earlier reads that took packets: base and count for `insert_range`, or one number of that range for `insert`"
+  -- "Acks come from earlier reads that took packets: base and count for `insert_range`, or one number of that range for `insert`", and those of refusal 5
   pub insertsRange : (l : Link) (a : Ack) → In a (l .receiver .acks) → Fair l (on-window (insert-range (a .base) (a .count)))
   pub inserts : (l : Link) (a : Ack) (n : ℕ) → In a (l .receiver .acks) → a .base ≤ n → n < a .base + a .count → Fair l (on-window (insert n))
-  -- "all from one number s", which is any number of 64 bits; "W at least 1,500"; any memory that `new` takes
+  -- "all from one number s", which is any number of 64 bits; "W at least 1,500"; any memory that `new` takes, with room for 64 packets of 1,520 bytes
   pub begins : (s w : ℕ) (o : OrderedBytes) (m : Memory) (calls : List Call)
       → s ≤ 18446744073709551615 → 1500 ≤ w → creating w s (m .marks) (m .lengths) (m .store) .said ≡ answers o
+      → 64 ≤ length (m .numbers) → 64 ≤ length (m .payloadLengths) → 97280 ≤ length (m .packets)
       → Fairly (fresh s w o m) calls → Premises s w o m calls
   -- what the claim speaks of, where it is met: "until 8 with length or limit at least 1", and bytes covered
   pub empties : (l : Link) (before : List Call) (len : ℕ) (out : List ℕ) → 1 ≤ len

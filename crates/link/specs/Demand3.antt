@@ -1,4 +1,4 @@
--- Demand 3, whole: a fresh link, any list of calls on it, document 01's premises, and what is claimed of the list ("Premises of demand 3").
+-- Demand 3, whole: a fresh link, any list of calls on it, document 01's premises, and what is claimed of the list ("Premises of demand 3"), with what document 02 adds.
 -- Every step is made of the definitions that the calls' contracts cite, on the lent lists themselves; beside them stands only the history.
 -- The theorem is `demand3` of proofs/Demand3.antt.
 use Prim.Native.Nat.{ℕ, zero, suc, _+_, _*_, _^_, _≤_, _<_}
@@ -8,13 +8,17 @@ use mathlib.Core.Bool.{Bool, true, false, cond}
 use mathlib.Core.Option.{Option, none, some}
 use mathlib.Core.List.{List, [], _∷_, _++_, map, flatten}
 use lib.ListN.{length, take}
-use lib.Dec.{eqb}
+use lib.Dec.{leb, eqb}
+use lib.Seq.{paste}
 use Rattle.refusal.specs.Said.{Said, answers, refuses, refusesAt, refusalIn}
 use Rattle.lists.specs.Numbers.{largest}
 use Rattle.header.specs.Types.{typeNumber}
 use Rattle.packet.specs.Packet.{Packet, joined}
 use Rattle.packet.specs.Datagram.{parses, parsesInto, cellsIn, cellsWritten, listed}
-use Rattle.writer.specs.Packing.{Queue, consumesData, packetsMade, dequeued, byteLimit, payloadSize}
+use Rattle.outstanding.specs.Outstanding.{Store, storeOf, roomy, listing, answering}
+use Rattle.outstanding.specs.Outstanding as outstanding
+use Rattle.writer.specs.Packing.{Queue, packetsMade, dequeued, payloadSize}
+use Rattle.writer.specs.Sending.{limitFor, Sending, consumesData}
 use Rattle.writer.specs.Reserve.{reserving}
 use Rattle.writer.specs.declared.DataPacked.{DataPacked}
 use Rattle.ordered_bytes.specs.Buffer.{Buffer}
@@ -30,34 +34,39 @@ use Rattle.rtt.specs.declared.RttEstimator.{RttEstimator}
 pub record SenderSide : Type 0 where
   pub queue : Queue
   pub next : ℕ
+  -- the store of document 02, §3: what is kept to be sent again
+  pub kept : Store
   -- all bytes queued so far, the data packets made so far, and whether a FIN's number was reserved
   pub queued : List ℕ
   pub made : List Packet
   pub closing : Bool
 
 abbrev pub withQueue : Queue → SenderSide → SenderSide
-withQueue q d = record { queue = q; next = d .next; queued = d .queued; made = d .made; closing = d .closing }
+withQueue q d = record { queue = q; next = d .next; kept = d .kept; queued = d .queued; made = d .made; closing = d .closing }
 
 abbrev pub withNext : ℕ → SenderSide → SenderSide
-withNext n d = record { queue = d .queue; next = n; queued = d .queued; made = d .made; closing = d .closing }
+withNext n d = record { queue = d .queue; next = n; kept = d .kept; queued = d .queued; made = d .made; closing = d .closing }
+
+abbrev pub withKept : Store → SenderSide → SenderSide
+withKept k d = record { queue = d .queue; next = d .next; kept = k; queued = d .queued; made = d .made; closing = d .closing }
 
 abbrev pub withQueued : List ℕ → SenderSide → SenderSide
-withQueued bytes d = record { queue = d .queue; next = d .next; queued = bytes; made = d .made; closing = d .closing }
+withQueued bytes d = record { queue = d .queue; next = d .next; kept = d .kept; queued = bytes; made = d .made; closing = d .closing }
 
 abbrev pub withMade : List Packet → SenderSide → SenderSide
-withMade packets d = record { queue = d .queue; next = d .next; queued = d .queued; made = packets; closing = d .closing }
+withMade packets d = record { queue = d .queue; next = d .next; kept = d .kept; queued = d .queued; made = packets; closing = d .closing }
 
 abbrev pub withClosing : Bool → SenderSide → SenderSide
-withClosing c d = record { queue = d .queue; next = d .next; queued = d .queued; made = d .made; closing = c }
+withClosing c d = record { queue = d .queue; next = d .next; kept = d .kept; queued = d .queued; made = d .made; closing = c }
 
--- base and count of a read that took packets
+-- base and count of a read that took packets, or of a packet that accepting refused with 5
 pub record Ack : Type 0 where
   pub base : ℕ
   pub count : ℕ
 
 pub record ReceiverSide : Type 0 where
   pub buffer : Buffer
-  -- the numbers accepted without refusal, the bytes that the reads gave, their acks, oldest first, and the packets that their answers count
+  -- the numbers accepted without refusal, the bytes that the reads gave, the acks, oldest first, and the packets that the reads' answers count
   pub accepted : List ℕ
   pub delivered : List ℕ
   pub acks : List Ack
@@ -114,19 +123,26 @@ withWindow d l = record { sender = l .sender; receiver = l .receiver; acked = d;
 abbrev pub withTrips : RttEstimator → Link → Link
 withTrips t l = record { sender = l .sender; receiver = l .receiver; acked = l .acked; trips = t }
 
--- the lent memory of a fresh link: the receive buffer's three lists, and the window's cells
+-- the lent memory of a fresh link: the receive buffer's three lists, the window's cells, and the three lists of the packets kept
 pub record Memory : Type 0 where
   pub marks : List Bool
   pub lengths : List ℕ
   pub store : List ℕ
   pub cells : List ℕ
+  pub numbers : List ℕ
+  pub payloadLengths : List ℕ
+  pub packets : List ℕ
 
--- "Fresh: one sender, queue empty, nothing in receiver and window, all from one number s": `o` is what `new` answers for slots of width w in the lent memory
+abbrev pub emptyStore : Memory → Store
+emptyStore m = storeOf outstanding.fresh (m .numbers) (m .payloadLengths) (m .packets)
+
+-- "Fresh: one sender, queue empty, nothing in receiver and window, all from one number s": `o` is what `new` answers for slots of width w in the lent memory;
+-- "Fresh has an empty store" (document 02, §3)
 abbrev pub fresh : ℕ → ℕ → OrderedBytes → Memory → Link
 fresh s w o m =
     let made = creating w s (m .marks) (m .lengths) (m .store) in
     record {
-      sender = record { queue = record { bytes = []; lengths = [] }; next = s; queued = []; made = []; closing = false };
+      sender = record { queue = record { bytes = []; lengths = [] }; next = s; kept = emptyStore m; queued = []; made = []; closing = false };
       receiver = record {
         buffer = record { state = o; marks = made .marks; lengths = made .lengths; store = m .store };
         accepted = [];
@@ -146,6 +162,8 @@ pub data SenderCall : Type 0 where
   -- source and destination id, output
   pack : ℕ → ℕ → List ℕ → SenderCall
   reserve : SenderCall
+  -- output
+  list-outstanding : List ℕ → SenderCall
 
 pub data Parser : Type 0 where
   from-bytes : Parser
@@ -191,17 +209,19 @@ enqueued entries d =
 
 -- how many bytes a packing may take, as the packets made and what is said of them count it
 abbrev pub limitOf : SenderSide → ℕ
-limitOf d = byteLimit
+limitOf d = limitFor (d .kept)
 
--- what a packing says, and its output as it leaves it: by the call's own definition
-abbrev pub packingOf : SenderSide → ℕ → ℕ → List ℕ → Said DataPacked × List ℕ
-packingOf d src dst out = consumesData (d .queue) (d .next) src dst out
+-- what a packing says, its output and the store as it leaves them: by the call's own definition
+abbrev pub packingOf : SenderSide → ℕ → ℕ → List ℕ → Sending
+packingOf d src dst out = consumesData (d .kept) (d .queue) (d .next) src dst out
 
-abbrev pub packedBy : Said DataPacked → ℕ → ℕ → SenderSide → SenderSide
-packedBy (answers p) src dst d =
-    withQueue (dequeued p (d .queue)) (withNext (p .«next_packet_num») (withMade (d .made ++ packetsMade (limitOf d) src dst (d .next) (d .queue .bytes)) d))
-packedBy (refuses r) src dst d = d
-packedBy (refusesAt r at) src dst d = d
+-- "demand 3 hands it on like the queue": k is the store that the packing left
+abbrev pub packedBy : Said DataPacked → Store → ℕ → ℕ → SenderSide → SenderSide
+packedBy (answers p) k src dst d =
+    withKept k
+    (withQueue (dequeued p (d .queue)) (withNext (p .«next_packet_num») (withMade (d .made ++ packetsMade (limitOf d) src dst (d .next) (d .queue .bytes)) d)))
+packedBy (refuses r) k src dst d = withKept k d
+packedBy (refusesAt r at) k src dst d = withKept k d
 
 abbrev pub reservedBy : Said (ℕ × ℕ) → SenderSide → SenderSide
 reservedBy (answers n) d = withNext (n .1) (withClosing true d)
@@ -210,8 +230,10 @@ reservedBy (refusesAt r at) d = d
 
 abbrev pub callSender : SenderSide → SenderCall → Called SenderSide
 callSender d (enqueue entries) = record { refusals = []; left = enqueued entries d }
-callSender d (pack src dst out) = let said = packingOf d src dst out .0 in record { refusals = refusalIn said ∷ []; left = packedBy said src dst d }
+callSender d (pack src dst out) =
+    let o = packingOf d src dst out in record { refusals = refusalIn (o .said) ∷ []; left = packedBy (o .said) (o .store) src dst d }
 callSender d reserve = let said = reserving (d .next) in record { refusals = refusalIn said ∷ []; left = reservedBy said d }
+callSender d (list-outstanding out) = record { refusals = refusalIn (listing (d .kept) out .0) ∷ []; left = d }
 
 -- ---- the receiver's calls
 
@@ -223,8 +245,20 @@ acceptedBy (refusesAt r at) b n d = withBuffer b d
 abbrev pub accept : Packet → ReceiverSide → Acceptance
 accept p d = accepting (d .buffer) (p .header .«packet_number») (p .payload)
 
+-- "Acks come from earlier reads that took packets"
+abbrev pub ackOf : ℕ → ℕ → List Ack
+ackOf base zero = []
+ackOf base (suc n) = record { base = base; count = suc n } ∷ []
+
+-- "Accepting's refusal 5 also gives an ack of that number, count 1; document 01's premise on acks admits these too" (document 02, §3)
+abbrev pub ackAt5 : Option (ℕ × ℕ × ℕ) → List Ack
+ackAt5 none = []
+ackAt5 (some v) = ackOf (v .1) (v .0)
+
 abbrev pub acceptedOne : Packet → ReceiverSide → ReceiverSide
-acceptedOne p d = acceptedBy (accept p d .said) (accept p d .buffer) (p .header .«packet_number») d
+acceptedOne p d =
+    let a = accept p d in
+    withAcks (d .acks ++ ackAt5 (a .ack)) (acceptedBy (a .said) (a .buffer) (p .header .«packet_number») d)
 
 unfoldable pub acceptedAll : List Packet → ReceiverSide → ReceiverSide
 acceptedAll [] d = d
@@ -238,11 +272,6 @@ acceptRefusals (p ∷ ps) d = refusalIn (accept p d .said) ∷ acceptRefusals ps
 abbrev pub parsing : Parser → List ℕ → List ℕ → Said ℕ × List ℕ
 parsing from-bytes datagram index = parses datagram index
 parsing from-bytes-into datagram index = parsesInto datagram index
-
--- "Acks come from earlier reads that took packets"
-abbrev pub ackOf : ℕ → ℕ → List Ack
-ackOf base zero = []
-ackOf base (suc n) = record { base = base; count = suc n } ∷ []
 
 -- packets taken, base and bytes: what a read gave stands at the output's start
 abbrev pub gave : ℕ × ℕ × ℕ → Buffer → List ℕ → ReceiverSide → ReceiverSide
@@ -305,6 +334,19 @@ callWindow d (insert-range base count) =
     let o = insertRange (d .state) (d .cells) base count in record { refusals = refusalIn (o .0) ∷ []; left = rangeInsertedBy o base count d }
 callWindow d consume-window = let o = consume (d .state) (d .cells) in record { refusals = refusalIn (o .0) ∷ []; left = consumedBy o d }
 
+-- "Keep each packed packet until the window's `consume` answers it or a later number" (document 02, §3): what the sender drops at an answer
+abbrev pub answeredBy : Said (Option (ℕ × ℕ)) → SenderSide → Called SenderSide
+answeredBy (answers (some run)) d = let o = answering (d .kept) (run .0) in record { refusals = refusalIn (o .0) ∷ []; left = withKept (o .1) d }
+answeredBy (answers none) d = record { refusals = []; left = d }
+answeredBy (refuses r) d = record { refusals = []; left = d }
+answeredBy (refusesAt r at) d = record { refusals = []; left = d }
+
+-- of the window's calls only a consume has such an answer
+abbrev pub hearsOf : WindowSide → WindowCall → SenderSide → Called SenderSide
+hearsOf w (insert n) d = record { refusals = []; left = d }
+hearsOf w (insert-range base count) d = record { refusals = []; left = d }
+hearsOf w consume-window d = answeredBy (consume (w .state) (w .cells) .0) d
+
 -- ---- the estimator's calls
 
 abbrev pub callTrips : RttEstimator → TripsCall → Called RttEstimator
@@ -316,13 +358,13 @@ callTrips t wait-time = record { refusals = refusalIn (rtt.waiting t) ∷ []; le
 abbrev pub refusals : Link → Call → List ℕ
 refusals l (on-sender c) = callSender (l .sender) c .refusals
 refusals l (on-receiver c) = callReceiver (l .receiver) c .refusals
-refusals l (on-window c) = callWindow (l .acked) c .refusals
+refusals l (on-window c) = callWindow (l .acked) c .refusals ++ hearsOf (l .acked) c (l .sender) .refusals
 refusals l (on-trips c) = callTrips (l .trips) c .refusals
 
 abbrev pub step : Link → Call → Link
 step l (on-sender c) = withSender (callSender (l .sender) c .left) l
 step l (on-receiver c) = withReceiver (callReceiver (l .receiver) c .left) l
-step l (on-window c) = withWindow (callWindow (l .acked) c .left) l
+step l (on-window c) = withSender (hearsOf (l .acked) c (l .sender) .left) (withWindow (callWindow (l .acked) c .left) l)
 step l (on-trips c) = withTrips (callTrips (l .trips) c .left) l
 
 unfoldable pub run : Link → List Call → Link
@@ -358,6 +400,10 @@ indexed expected from-bytes-into datagram index = dataOf (listed datagram (parse
 abbrev pub indexedOn : Link → Parser → List ℕ → List ℕ → List Packet
 indexedOn l = indexed (l .receiver .buffer .state .«front_number»)
 
+-- a packet's number and payload: what "same number, same payload" speaks of
+abbrev pub key : Packet → ℕ × List ℕ
+key p = (p .header .«packet_number», p .payload)
+
 -- "made earlier in the list (same number, same payload)"
 pub record MadeEarlier (l : Link) (p : Packet) : Type 0 where
   pub original : Packet
@@ -377,6 +423,7 @@ FairSender l (enqueue entries) = Unit
 -- "no data packed after a FIN's number was reserved"
 FairSender l (pack src dst out) = l .sender .closing ≡ true → callSender (l .sender) (pack src dst out) .left .made ≡ l .sender .made
 FairSender l reserve = Unit
+FairSender l (list-outstanding out) = Unit
 
 abbrev pub FairReceiver : Link → ReceiverCall → Type 0
 FairReceiver l (arrive parser datagram index packets) = All (MadeEarlier l) (indexedOn l parser datagram index) × All (λ p. In p (indexedOn l parser datagram index)) packets
@@ -403,11 +450,12 @@ unfoldable pub Fairly : Link → List Call → Type 0
 Fairly l [] = Unit
 Fairly l (c ∷ cs) = Fair l c × Fairly (step l c) cs
 
--- a fresh link on any lent memory that `new` takes, "W at least 1,500", and a list of calls that keeps the premises
+-- a fresh link on any lent memory that `new` takes and that has room for 64 packets, "W at least 1,500", and a list of calls that keeps the premises
 pub record Premises (s w : ℕ) (o : OrderedBytes) (m : Memory) (calls : List Call) : Type 0 where
   pub start : s ≤ largest
   pub new : creating w s (m .marks) (m .lengths) (m .store) .said ≡ answers o
   pub wide : payloadSize ≤ w
+  pub room : roomy (m .numbers) (m .payloadLengths) (m .packets) ≡ true
   pub fair : Fairly (fresh s w o m) calls
 
 -- ---- the conclusions
@@ -466,7 +514,7 @@ pub record Wrote (d : SenderSide) (src dst : ℕ) (out : List ℕ) (p : DataPack
   pub packets : List Packet
   pub counted : length packets ≡ p .packets
   pub added : callSender d (pack src dst out) .left .made ≡ d .made ++ packets
-  pub written : take (p .bytes + 20 * p .packets) (packingOf d src dst out .1) ≡ joined packets
+  pub written : take (p .bytes + 20 * p .packets) (packingOf d src dst out .out) ≡ joined packets
   pub readBack : src < 2 ^ 32 → dst < 2 ^ 32 → 0 < p .packets
       → (parser : Parser) (index : List ℕ) → p .packets ≤ cellsIn index → ReadsBack parser (joined packets) packets index
 
@@ -507,11 +555,28 @@ pub record Acknowledges (s : ℕ) (first : Link) (calls : List Call) : Type 0 wh
   -- where the list ends by consuming the window, it expects the first number that has not entered
   pub atConsume : (before : List Call) → calls ≡ before ++ (on-window consume-window ∷ []) → ExpectsFirst s (run first calls .acked)
 
+-- the packets with number n and later ones
+unfoldable pub numberedOn : ℕ → List Packet → List Packet
+numberedOn n [] = []
+numberedOn n (p ∷ ps) = cond (leb n (p .header .«packet_number»)) (p ∷ numberedOn n ps) (numberedOn n ps)
+
+-- "those outstanding": made, and answered neither itself nor by a later number
+abbrev pub outstandingOn : Link → List Packet
+outstandingOn l = numberedOn (l .acked .expects) (l .sender .made)
+
+-- what is kept to be sent again: at most 64 packets, and a listing gives exactly those outstanding, "whole and end to end, answering their count (10 if the buffer is short)"
+pub record Resends (l : Link) : Type 0 where
+  pub few : length (outstandingOn l) ≤ 64
+  pub lists : (out : List ℕ) → length (joined (outstandingOn l)) ≤ length out
+      → listing (l .sender .kept) out ≡ (answers (length (outstandingOn l)), paste out 0 (joined (outstandingOn l)) (length (joined (outstandingOn l))))
+  pub short : (out : List ℕ) → length out < length (joined (outstandingOn l)) → listing (l .sender .kept) out ≡ (refuses 10, out)
+
 pub record Demand3 (s : ℕ) (first : Link) (calls : List Call) : Type 0 where
   pub delivery : Delivers s first calls
   pub acknowledgement : Acknowledges s first calls
+  pub resending : Resends (run first calls)
   -- what was made is what was written: so of every packing of the list that is not refused
   pub wrote : (on : Link) (src dst : ℕ) (out : List ℕ) (p : DataPacked) → Made-in first calls on (on-sender (pack src dst out))
-      → packingOf (on .sender) src dst out .0 ≡ answers p → Wrote (on .sender) src dst out p
+      → packingOf (on .sender) src dst out .said ≡ answers p → Wrote (on .sender) src dst out p
   -- no call of the list answers 12
   pub wellFormed : (on : Link) (call : Call) → Made-in first calls on call → In 12 (refusals on call) → ⊥
