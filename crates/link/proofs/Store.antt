@@ -17,7 +17,7 @@ use Rattle.lists.specs.Rising.{rising}
 use Rattle.lists.specs.Within.{allWithin}
 use Rattle.lists.proofs.Order.{either}
 use Rattle.packet.specs.Packet.{Packet, packetBytes, joined}
-use Rattle.outstanding.specs.Outstanding.{places, Store, countOf, numbersOf, lengthsOf, size, bytesOf, allBelow, roomy, wellFormed, numberIn, lengthIn, keeping, listing, upTo, answering}
+use Rattle.outstanding.specs.Outstanding.{places, Store, countOf, numbersOf, lengthsOf, size, allBelow, roomy, numberIn, lengthIn, keeping, listing, upTo, answering}
 use Rattle.outstanding.specs.Steps.{counting}
 use Rattle.outstanding.proofs.Laws.{Good, good-is, below-good, below-is, roomy-is, next-up, size-joined, joined-drop, Keepable, keeps, upTo-counting, drops, answering-is, answered-few, listing-is, listing-short}
 use Rattle.window.specs.Window.{Outcome, consume}

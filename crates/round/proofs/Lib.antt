@@ -1,0 +1,5 @@
+pub mod Sizes
+pub mod Entered
+pub mod Received
+pub mod Round
+pub mod Sample
