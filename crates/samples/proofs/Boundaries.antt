@@ -3,6 +3,7 @@ use Rattle.samples.specs.Boundaries.{Boundaries}
 use Rattle.samples.proofs.HeaderRows.{header-rows}
 use Rattle.samples.proofs.PacketRows.{packet-rows, parser-rows}
 use Rattle.samples.proofs.WriterRows.{packing-rows, payload-bytes-rows, reserve-rows}
+use Rattle.samples.proofs.OutstandingRows.{places-rows, store-rows, list-rows, drop-rows}
 use Rattle.samples.proofs.RingRows.{ring-rows, ack-rows}
 use Rattle.samples.proofs.WindowRows.{insert-rows, range-rows, window-consume-rows}
 use Rattle.samples.proofs.BufferRows.{new-rows, start-rows, accept-rows, peek-rows, consume-rows, consume-bytes-rows}
@@ -16,6 +17,10 @@ boundaries = record {
   packet = packet-rows;
   parsers = parser-rows;
   packing = packing-rows;
+  places = places-rows;
+  store = store-rows;
+  list = list-rows;
+  drop = drop-rows;
   payload-bytes = payload-bytes-rows;
   acks = ack-rows;
   ring = ring-rows;

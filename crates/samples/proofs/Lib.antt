@@ -1,7 +1,9 @@
+pub mod Lent
 pub mod Samples
 pub mod HeaderRows
 pub mod PacketRows
 pub mod WriterRows
+pub mod OutstandingRows
 pub mod RingRows
 pub mod WindowRows
 pub mod BufferRows

@@ -1,46 +1,51 @@
--- The boundaries of packing data, of a datagram's payload bytes and of a FIN's number hold of their definitions: each row computes. Assumes nothing.
+-- The boundaries of packing data, of a datagram's payload bytes and of a FIN's number hold of their definitions: each row computes, but for the count of lent bytes (Lent.antt).
+-- Assumes nothing.
 use mathlib.Core.Path.{refl}
 use Rattle.header.specs.Header.{headerBytes}
 use Rattle.packet.specs.Packet.{joined}
-use Rattle.writer.specs.Packing.{payloadSize, byteLimit, cut, numbered, removal, shortened, sum, packing}
+use Rattle.lists.specs.Rising.{rising}
+use Rattle.lists.specs.Within.{allWithin}
+use Rattle.outstanding.specs.Outstanding.{places, size, allBelow, keeping}
+use Rattle.writer.specs.Packing.{payloadSize, byteLimit, cut, numbered, removal, shortened, sum}
 use Rattle.writer.specs.PayloadBytes.{payloadBytesBy}
 use Rattle.samples.specs.WriterRows.{PackingRows, PayloadBytesRows, ReserveRows}
+use Rattle.samples.proofs.Lent.{made, says}
 
 pub packing-rows : PackingRows
-unfolding headerBytes joined payloadSize byteLimit cut numbered removal shortened sum packing
+unfolding headerBytes joined rising allWithin places size allBelow keeping payloadSize byteLimit cut numbered removal shortened sum
 packing-rows = record {
-  lengths-below = refl;
-  lengths-above = refl;
-  bytes-in-no-entry = refl;
-  entry-of-no-bytes = refl;
-  malformed-before-number = refl;
-  malformed-before-room = refl;
-  number-before-room = refl;
-  last-number = refl;
-  no-number = refl;
-  last-two-numbers = refl;
-  one-number-of-two = refl;
-  no-number-needed = refl;
-  room-20 = refl;
-  room-21 = refl;
-  room-22 = refl;
-  room-1540 = refl;
-  room-1543 = refl;
-  room-15199 = refl;
-  room-15200 = refl;
-  total-1 = (refl, refl);
-  total-1500 = (refl, refl);
-  total-1501 = (refl, refl);
-  total-3000 = (refl, refl);
-  no-entry = refl;
-  empty-entries = refl;
-  total-14999 = (refl, refl);
-  total-15000 = (refl, refl);
-  empty-before = (refl, refl);
-  empty-between = (refl, refl);
-  used-up = (refl, refl);
-  cut-by-one = (refl, refl);
-  cut-behind-empty = (refl, refl);
+  lengths-below = made _ _ _;
+  lengths-above = made _ _ _;
+  bytes-in-no-entry = made _ _ _;
+  entry-of-no-bytes = made _ _ _;
+  malformed-before-number = made _ _ _;
+  malformed-before-room = made _ _ _;
+  number-before-room = made _ _ _;
+  last-number = made _ _ _;
+  no-number = made _ _ _;
+  last-two-numbers = says _ _ _;
+  one-number-of-two = made _ _ _;
+  no-number-needed = made _ _ _;
+  room-20 = made _ _ _;
+  room-21 = made _ _ _;
+  room-22 = made _ _ _;
+  room-1540 = made _ _ _;
+  room-1543 = made _ _ _;
+  room-15199 = made _ _ _;
+  room-15200 = made _ _ _;
+  total-1 = (says _ _ _, refl);
+  total-1500 = (says _ _ _, refl);
+  total-1501 = (says _ _ _, refl);
+  total-3000 = (says _ _ _, refl);
+  no-entry = made _ _ _;
+  empty-entries = made _ _ _;
+  total-14999 = (says _ _ _, refl);
+  total-15000 = (says _ _ _, refl);
+  empty-before = (says _ _ _, refl);
+  empty-between = (says _ _ _, refl);
+  used-up = (says _ _ _, refl);
+  cut-by-one = (says _ _ _, refl);
+  cut-behind-empty = (says _ _ _, refl);
 }
 
 pub payload-bytes-rows : PayloadBytesRows

@@ -4,6 +4,7 @@
 use Rattle.samples.specs.HeaderRows.{HeaderRows}
 use Rattle.samples.specs.PacketRows.{PacketRows, ParserRows}
 use Rattle.samples.specs.WriterRows.{PackingRows, PayloadBytesRows, ReserveRows}
+use Rattle.samples.specs.OutstandingRows.{PlacesRows, StoreRows, ListRows, DropRows}
 use Rattle.samples.specs.RingRows.{RingRows}
 use Rattle.samples.specs.AckRows.{AckRows}
 use Rattle.samples.specs.WindowRows.{InsertRows, RangeRows, WindowConsumeRows}
@@ -18,8 +19,12 @@ pub record Boundaries : Type 0 where
   pub header : HeaderRows
   pub packet : PacketRows
   pub parsers : ParserRows
-  -- packing data and acks, the ring of queued acks
+  -- packing data and acks, the store of outstanding packets, the ring of queued acks
   pub packing : PackingRows
+  pub places : PlacesRows
+  pub store : StoreRows
+  pub list : ListRows
+  pub drop : DropRows
   pub payload-bytes : PayloadBytesRows
   pub acks : AckRows
   pub ring : RingRows

@@ -2,6 +2,7 @@
 use Prim.Native.Nat.{ℕ, _-_, _^_}
 use mathlib.Core.Path.{_≡_}
 use mathlib.Core.Bool.{Bool, true, false}
+use mathlib.Core.Option.{none, some}
 use mathlib.Core.List.{List, [], _∷_, map}
 use lib.ListN.{replicate}
 use Rattle.refusal.specs.Said.{Said, answers, refuses}
@@ -80,13 +81,17 @@ pub record StartRows : Type 0 where
   -- "12 comes first everywhere": some of these hold a packet
   pub each-12 : map (λ b. starting b 7) malformed ≡ replicate 15 (refuses 12)
 
--- ---- accepting a number with a payload: what is said, and the buffer left
+-- ---- accepting a number with a payload: what is said, and the buffer left; no ack
 abbrev pub Accepts : Buffer → ℕ → List ℕ → Buffer → Type 0
-Accepts b n payload left = accepting b n payload ≡ record { said = answers tt; buffer = left }
+Accepts b n payload left = accepting b n payload ≡ record { said = answers tt; ack = none; buffer = left }
 
--- "all unchanged"
+-- "all unchanged", and no ack
 abbrev pub Refuses : Buffer → ℕ → List ℕ → ℕ → Type 0
-Refuses b n payload r = accepting b n payload ≡ record { said = refuses r; buffer = b }
+Refuses b n payload r = accepting b n payload ≡ record { said = refuses r; ack = none; buffer = b }
+
+-- refused with 5, all unchanged, and an ack: packets, base, bytes
+abbrev pub Acks : Buffer → ℕ → List ℕ → ℕ × ℕ × ℕ → Type 0
+Acks b n payload ack = accepting b n payload ≡ record { said = refuses 5; ack = some ack; buffer = b }
 
 -- two slots that hold nothing, from a number on
 abbrev pub nothingFrom : ℕ → Buffer
@@ -108,10 +113,10 @@ pub record AcceptRows : Type 0 where
   pub empty-payload : Accepts secondSlotFirst 100 [] (bufferOf (stateOf 3 1 100 2) (false ∷ true ∷ []) (3 ∷ 0 ∷ []) (lent 9))
   pub round-the-end : Accepts secondSlotFirst 101 (1 ∷ 2 ∷ [])
       (bufferOf (stateOf 3 1 100 2) (true ∷ false ∷ []) (2 ∷ 3 ∷ []) (1 ∷ 2 ∷ 99 ∷ 99 ∷ 99 ∷ 99 ∷ 99 ∷ 99 ∷ 99 ∷ []))
-  -- "n below the front number, 5": before 11
-  pub below : Refuses nothing 99 (1 ∷ []) 5
-  pub below-before-long : Refuses nothing 99 (replicate 4 1) 5
-  pub below-the-last : Refuses (nothingFrom (2 ^ 64 - 1)) (2 ^ 64 - 2) (1 ∷ []) 5
+  -- "n below the front number, 5": before 11. 02 §3: "Accepting's refusal 5 also gives an ack of that number, count 1"
+  pub below : Acks nothing 99 (1 ∷ []) (1, 99, 0)
+  pub below-before-long : Acks nothing 99 (replicate 4 1) (1, 99, 0)
+  pub below-the-last : Acks (nothingFrom (2 ^ 64 - 1)) (2 ^ 64 - 2) (1 ∷ []) (1, 2 ^ 64 - 2, 0)
   -- "n − front at least N, 6": before 9, before 7 where the number N places earlier has its slot, and before 11
   pub distance-1 : Accepts nothing 101 (1 ∷ 2 ∷ [])
       (bufferOf (stateOf 3 0 100 0) (false ∷ true ∷ []) (0 ∷ 2 ∷ []) (99 ∷ 99 ∷ 99 ∷ 1 ∷ 2 ∷ 99 ∷ 99 ∷ 99 ∷ 99 ∷ []))
@@ -134,7 +139,7 @@ pub record AcceptRows : Type 0 where
   pub payload-3 : Accepts nothing 100 (1 ∷ 2 ∷ 3 ∷ []) (bufferOf (stateOf 3 0 100 0) (true ∷ false ∷ []) (3 ∷ 0 ∷ []) (1 ∷ 2 ∷ 3 ∷ 99 ∷ 99 ∷ 99 ∷ 99 ∷ 99 ∷ 99 ∷ []))
   pub payload-4 : Refuses nothing 100 (replicate 4 1) 11
   -- "12 comes first everywhere": before 5 and 11
-  pub each-12 : map (λ b. accepting b 99 (1 ∷ [])) malformed ≡ map (λ b. record { said = refuses 12; buffer = b }) malformed
+  pub each-12 : map (λ b. accepting b 99 (1 ∷ [])) malformed ≡ map (λ b. record { said = refuses 12; ack = none; buffer = b }) malformed
 
 -- ---- `peek`
 pub record PeekRows : Type 0 where

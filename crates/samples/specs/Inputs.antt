@@ -1,13 +1,14 @@
--- What the rows of the second table share (Boundaries.antt): lent bytes, headers by their fields, and headers by their bytes.
-use Prim.Native.Nat.{ℕ}
+-- What the rows share: lent bytes, headers by their fields and by their bytes, and stores of outstanding packets.
+use Prim.Native.Nat.{ℕ, _-_}
 use mathlib.Core.Path.{_≡_}
 use mathlib.Core.Bool.{Bool}
-use mathlib.Core.List.{List, [], _∷_}
-use lib.ListN.{replicate}
+use mathlib.Core.List.{List, [], _∷_, _++_}
+use lib.ListN.{length, replicate}
 use Rattle.refusal.specs.Said.{Said}
 use Rattle.header.specs.declared.PacketType.{PacketType}
 use Rattle.header.specs.declared.BluefinSecurityFields.{BluefinSecurityFields}
 use Rattle.header.specs.declared.BluefinHeader.{BluefinHeader}
+use Rattle.outstanding.specs.Outstanding.{Store}
 
 -- a call on one lent list: what it says, and the list that it leaves
 abbrev pub Leaves : {A : Type 0} → Said A × List ℕ → Said A → List ℕ → Type 0
@@ -39,3 +40,19 @@ headOf type high low number = type ∷ high ∷ low ∷ 0 ∷ 0 ∷ 0 ∷ 0 ∷ 
 -- .. with a field below 256
 abbrev pub head : ℕ → ℕ → ℕ → List ℕ
 head type field number = headOf type 0 field number
+
+-- a lent list of n numbers, of which the first are these
+abbrev pub begins : List ℕ → ℕ → List ℕ
+begins front n = front ++ lent (n - length front)
+
+-- a store that counts so many packets, in just enough lent memory: 64 cells, 64 lengths and 64 times 1,520 bytes, of which the first are these. No row writes behind the first
+-- 17,280 bytes; so the other 80,000 stand apart, and need not be compared one by one
+abbrev pub counts : ℕ → List ℕ → List ℕ → List ℕ → Store
+counts n numbers lengths packets = record { state = record { count = n }; numbers = begins numbers 64; lengths = begins lengths 64; packets = begins packets 17280 ++ lent 80000 }
+
+-- .. and that counts as many as numbers are given
+abbrev pub kept : List ℕ → List ℕ → List ℕ → Store
+kept numbers lengths packets = counts (length numbers) numbers lengths packets
+
+abbrev pub nothingKept : Store
+nothingKept = kept [] [] []

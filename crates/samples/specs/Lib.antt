@@ -3,6 +3,7 @@ pub mod Inputs
 pub mod HeaderRows
 pub mod PacketRows
 pub mod WriterRows
+pub mod OutstandingRows
 pub mod RingRows
 pub mod AckRows
 pub mod WindowRows

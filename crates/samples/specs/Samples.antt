@@ -14,13 +14,15 @@ use Rattle.packet.specs.Packet.{Packet}
 use Rattle.packet.specs.Datagram.{parses, listed}
 use Rattle.ring_buffer.specs.declared.AckData.{AckData}
 use Rattle.ring_buffer.specs.declared.RingBuffer.{RingBuffer}
-use Rattle.writer.specs.Packing.{Queue, packing, dequeued, byteLimit}
+use Rattle.writer.specs.Packing.{Queue, dequeued}
+use Rattle.writer.specs.Sending.{consumesData}
 use Rattle.writer.specs.declared.DataPacked.{DataPacked}
 use Rattle.writer.specs.Acks.{consumesAcks}
 use Rattle.window.specs.Window.{window, insertPacketNumber, insertRange}
 use Rattle.window.specs.declared.SlidingWindow.{SlidingWindow}
 use Rattle.ordered_bytes.specs.Buffer.{Buffer}
 use Rattle.ordered_bytes.specs.Calls.{accepting, consuming}
+use Rattle.samples.specs.Inputs.{headOf, head, kept, nothingKept}
 
 -- a header with version 0 and security byte 0, from source 1 to destination 2
 abbrev pub plain : PacketType → ℕ → ℕ → BluefinHeader
@@ -34,12 +36,12 @@ dataHeaderBytes = 3 ∷ 0 ∷ 5 ∷ 0 ∷ 0 ∷ 0 ∷ 0 ∷ 1 ∷ 0 ∷ 0 ∷ 0 
 abbrev pub index : List ℕ
 index = replicate 6 99
 
--- an entry of 1,499 bytes and one of 2, and what packing them from number 7 on leaves in the output
+-- an entry of 1,499 bytes and one of 2, and the packets that they make from number 7 on; 1,500 is 5 * 256 + 220
 abbrev pub twoEntries : Queue
 twoEntries = record { bytes = replicate 1499 1 ++ (2 ∷ 3 ∷ []); lengths = 1499 ∷ 2 ∷ [] }
 
 abbrev pub twoPackets : List ℕ
-twoPackets = packing byteLimit twoEntries 7 1 2 (replicate 1541 0) .1
+twoPackets = headOf 3 5 220 7 ++ replicate 1499 1 ++ (2 ∷ []) ++ head 3 1 8 ++ (3 ∷ [])
 
 -- one entry of 15,001 bytes, and the answer when it is packed from number 0 on
 abbrev pub longQueue : Queue
@@ -85,13 +87,17 @@ pub record Samples : Type 0 where
   pub empty-data-alone : _≡_ {A = Said ℕ × List ℕ} (parses (headerBytes (plain UnencryptedData 0 7)) index) (refusesAt 2 0, index)
   -- "with a 20-byte ack after it: two packets"
   pub empty-data-before-ack : _≡_ {A = Said ℕ × List ℕ} (parses (headerBytes (plain UnencryptedData 0 7) ++ headerBytes (plain Ack 3 9)) index) (answers 2, 0 ∷ 0 ∷ 20 ∷ 0 ∷ 99 ∷ 99 ∷ [])
-  -- "queue 1,499 and 2: payloads 1,500, 1."
-  pub two-packed : packing byteLimit twoEntries 7 1 2 (replicate 1541 0) .0
-      ≡ answers (record { bytes = 1501; packets = 2; «next_packet_num» = 9; «entries_removed» = 2; «bytes_cut» = 0 })
+  -- "queue 1,499 and 2: payloads 1,500, 1." The store (02 §3) is empty before
+  pub two-packed : consumesData nothingKept twoEntries 7 1 2 (replicate 1541 0)
+      ≡ record {
+        said = answers (record { bytes = 1501; packets = 2; «next_packet_num» = 9; «entries_removed» = 2; «bytes_cut» = 0 });
+        out = twoPackets;
+        store = kept (7 ∷ 8 ∷ []) (1500 ∷ 1 ∷ []) twoPackets;
+      }
   pub two-read : _≡_ {A = Said ℕ × List ℕ} (parses twoPackets index) (answers 2, 0 ∷ 1500 ∷ 1520 ∷ 1 ∷ 99 ∷ 99 ∷ [])
   pub two-payloads : map (λ (p : Packet). p .payload) (listed twoPackets (parses twoPackets index .1) 2) ≡ (replicate 1499 1 ++ (2 ∷ [])) ∷ (3 ∷ []) ∷ []
   -- "15,001: ten packets, 1 byte left."
-  pub ten-packets : packing byteLimit longQueue 0 1 2 (replicate 15200 0) .0 ≡ answers longPacked
+  pub ten-packets : consumesData nothingKept longQueue 0 1 2 (replicate 15200 0) .said ≡ answers longPacked
   pub one-left : dequeued longPacked longQueue ≡ record { bytes = 2 ∷ []; lengths = 1 ∷ [] }
   -- "used 15,180: one ack; 15,181: none, yes"
   pub room-for-one : consumesAcks oneAck ackCell 15180 1 2 (replicate 15200 0) .said ≡ answers (record { acks = 1; «to_send» = true })

@@ -3,12 +3,14 @@ use Prim.Native.Nat.{ℕ, _-_, _^_}
 use mathlib.Core.Path.{_≡_}
 use mathlib.Core.List.{List, [], _∷_, _++_}
 use lib.ListN.{replicate}
-use Rattle.refusal.specs.Said.{Said, answers, refuses}
+use Rattle.refusal.specs.Said.{answers, refuses}
 use Rattle.writer.specs.declared.DataPacked.{DataPacked}
-use Rattle.writer.specs.Packing.{Queue, byteLimit, dequeued, packing}
+use Rattle.writer.specs.Packing.{Queue, dequeued}
+use Rattle.writer.specs.Sending.{consumesData}
 use Rattle.writer.specs.PayloadBytes.{payloadBytes}
 use Rattle.writer.specs.Reserve.{reserving}
-use Rattle.samples.specs.Inputs.{Leaves, lent, headOf, head}
+use Rattle.outstanding.specs.Outstanding.{Store}
+use Rattle.samples.specs.Inputs.{lent, headOf, head, kept, nothingKept}
 
 -- ---- packing data, from source 1 to destination 2
 
@@ -19,15 +21,29 @@ queue bytes lengths = record { bytes = bytes; lengths = lengths }
 abbrev pub answer : ℕ → ℕ → ℕ → ℕ → ℕ → DataPacked
 answer q p next removed cut = record { bytes = q; packets = p; «next_packet_num» = next; «entries_removed» = removed; «bytes_cut» = cut }
 
--- a queue packed from a number on into lent bytes: what is said, and the bytes left
-abbrev pub Packs : Queue → ℕ → List ℕ → Said DataPacked → List ℕ → Type 0
-Packs q next out said left = Leaves (packing byteLimit q next 1 2 out) said left
+-- a queue packed from a number on into lent bytes, with a store: the answer, and the bytes and the store left
+abbrev pub Sends : Store → Queue → ℕ → List ℕ → DataPacked → List ℕ → Store → Type 0
+Sends k q next out said left after = consumesData k q next 1 2 out ≡ record { said = answers said; out = left; store = after }
 
--- so many bytes in such entries, packed from number 7 on into 15,200 bytes: the answer, and the queue left
-abbrev pub Takes : ℕ → List ℕ → DataPacked → ℕ → List ℕ → Type 0
-Takes total lengths said bytesLeft lengthsLeft =
-    (packing byteLimit (queue (replicate total 5) lengths) 7 1 2 (lent 15200) .0 ≡ answers said)
+-- "all unchanged"
+abbrev pub Unsent : Store → Queue → ℕ → List ℕ → ℕ → Type 0
+Unsent k q next out r = consumesData k q next 1 2 out ≡ record { said = refuses r; out = out; store = k }
+
+-- so many bytes in such entries, packed from a number on into 15,200 bytes, with a store: the answer, and the queue left
+abbrev pub TakesWith : Store → ℕ → ℕ → List ℕ → DataPacked → ℕ → List ℕ → Type 0
+TakesWith k next total lengths said bytesLeft lengthsLeft =
+    (consumesData k (queue (replicate total 5) lengths) next 1 2 (lent 15200) .said ≡ answers said)
     × (dequeued said (queue (replicate total 5) lengths) ≡ queue (replicate bytesLeft 5) lengthsLeft)
+
+-- the same with an empty store, the last from number 7 on
+abbrev pub Packs : Queue → ℕ → List ℕ → DataPacked → List ℕ → Store → Type 0
+Packs = Sends nothingKept
+
+abbrev pub Refuses : Queue → ℕ → List ℕ → ℕ → Type 0
+Refuses = Unsent nothingKept
+
+abbrev pub Takes : ℕ → List ℕ → DataPacked → ℕ → List ℕ → Type 0
+Takes = TakesWith nothingKept 7
 
 -- one byte in one entry, and the packet that it makes with number 7
 abbrev pub oneByte : Queue
@@ -61,35 +77,36 @@ tenPackets =
 
 pub record PackingRows : Type 0 where
   -- "lengths not adding up to the bytes": 12
-  pub lengths-below : Packs (queue (5 ∷ 6 ∷ []) (1 ∷ [])) 7 (lent 30) (refuses 12) (lent 30)
-  pub lengths-above : Packs (queue (5 ∷ 6 ∷ []) (1 ∷ 2 ∷ [])) 7 (lent 30) (refuses 12) (lent 30)
-  pub bytes-in-no-entry : Packs (queue (5 ∷ []) []) 7 (lent 30) (refuses 12) (lent 30)
-  pub entry-of-no-bytes : Packs (queue [] (1 ∷ [])) 7 (lent 30) (refuses 12) (lent 30)
+  pub lengths-below : Refuses (queue (5 ∷ 6 ∷ []) (1 ∷ [])) 7 (lent 30) 12
+  pub lengths-above : Refuses (queue (5 ∷ 6 ∷ []) (1 ∷ 2 ∷ [])) 7 (lent 30) 12
+  pub bytes-in-no-entry : Refuses (queue (5 ∷ []) []) 7 (lent 30) 12
+  pub entry-of-no-bytes : Refuses (queue [] (1 ∷ [])) 7 (lent 30) 12
   -- "Checks in order: 12, 9 (next number + p above 2^64 − 1), 10."
-  pub malformed-before-number : Packs (queue (5 ∷ 6 ∷ []) (1 ∷ [])) (2 ^ 64 - 1) (lent 30) (refuses 12) (lent 30)
-  pub malformed-before-room : Packs (queue (5 ∷ 6 ∷ []) (1 ∷ [])) 7 [] (refuses 12) []
-  pub number-before-room : Packs oneByte (2 ^ 64 - 1) (lent 20) (refuses 9) (lent 20)
-  pub last-number : Packs oneByte (2 ^ 64 - 2) (lent 21) (answers (answer 1 1 (2 ^ 64 - 1) 1 0)) lastPacket
-  pub no-number : Packs oneByte (2 ^ 64 - 1) (lent 21) (refuses 9) (lent 21)
-  pub last-two-numbers : packing byteLimit twoEntries (2 ^ 64 - 3) 1 2 (lent 1541) .0 ≡ answers (answer 1501 2 (2 ^ 64 - 1) 2 0)
-  pub one-number-of-two : Packs twoEntries (2 ^ 64 - 2) (lent 1541) (refuses 9) (lent 1541)
-  pub no-number-needed : Packs (queue [] (0 ∷ [])) (2 ^ 64 - 1) [] (answers (answer 0 0 (2 ^ 64 - 1) 1 0)) []
+  pub malformed-before-number : Refuses (queue (5 ∷ 6 ∷ []) (1 ∷ [])) (2 ^ 64 - 1) (lent 30) 12
+  pub malformed-before-room : Refuses (queue (5 ∷ 6 ∷ []) (1 ∷ [])) 7 [] 12
+  pub number-before-room : Refuses oneByte (2 ^ 64 - 1) (lent 20) 9
+  pub last-number : Packs oneByte (2 ^ 64 - 2) (lent 21) (answer 1 1 (2 ^ 64 - 1) 1 0) lastPacket (kept ((2 ^ 64 - 2) ∷ []) (1 ∷ []) lastPacket)
+  pub no-number : Refuses oneByte (2 ^ 64 - 1) (lent 21) 9
+  pub last-two-numbers : consumesData nothingKept twoEntries (2 ^ 64 - 3) 1 2 (lent 1541) .said ≡ answers (answer 1501 2 (2 ^ 64 - 1) 2 0)
+  pub one-number-of-two : Refuses twoEntries (2 ^ 64 - 2) (lent 1541) 9
+  pub no-number-needed : Packs (queue [] (0 ∷ [])) (2 ^ 64 - 1) [] (answer 0 0 (2 ^ 64 - 1) 1 0) [] nothingKept
   -- 10, an output that the packets do not fit: "written from the start of the lent output, whose other bytes stay"
-  pub room-20 : Packs oneByte 7 (lent 20) (refuses 10) (lent 20)
-  pub room-21 : Packs oneByte 7 (lent 21) (answers (answer 1 1 8 1 0)) onePacket
-  pub room-22 : Packs oneByte 7 (lent 22) (answers (answer 1 1 8 1 0)) (onePacket ++ (99 ∷ []))
-  pub room-1540 : Packs twoEntries 7 (lent 1540) (refuses 10) (lent 1540)
-  pub room-1543 : Packs twoEntries 7 (lent 1543) (answers (answer 1501 2 9 2 0)) (twoPackets ++ (99 ∷ 99 ∷ []))
-  pub room-15199 : Packs tenEntries 7 (lent 15199) (refuses 10) (lent 15199)
-  pub room-15200 : Packs tenEntries 7 (lent 15200) (answers (answer 15000 10 17 2 0)) tenPackets
+  pub room-20 : Refuses oneByte 7 (lent 20) 10
+  pub room-21 : Packs oneByte 7 (lent 21) (answer 1 1 8 1 0) onePacket (kept (7 ∷ []) (1 ∷ []) onePacket)
+  pub room-22 : Packs oneByte 7 (lent 22) (answer 1 1 8 1 0) (onePacket ++ (99 ∷ [])) (kept (7 ∷ []) (1 ∷ []) onePacket)
+  pub room-1540 : Refuses twoEntries 7 (lent 1540) 10
+  pub room-1543 : Packs twoEntries 7 (lent 1543) (answer 1501 2 9 2 0) (twoPackets ++ (99 ∷ 99 ∷ [])) (kept (7 ∷ 8 ∷ []) (1500 ∷ 1 ∷ []) twoPackets)
+  pub room-15199 : Refuses tenEntries 7 (lent 15199) 10
+  pub room-15200 : Packs tenEntries 7 (lent 15200) (answer 15000 10 17 2 0) tenPackets
+      (kept (7 ∷ 8 ∷ 9 ∷ 10 ∷ 11 ∷ 12 ∷ 13 ∷ 14 ∷ 15 ∷ 16 ∷ []) (replicate 10 1500) tenPackets)
   -- "Every payload is 1,500 bytes, but the last holds what remains of q; none is empty."
   pub total-1 : Takes 1 (1 ∷ []) (answer 1 1 8 1 0) 0 []
   pub total-1500 : Takes 1500 (1500 ∷ []) (answer 1500 1 8 1 0) 0 []
   pub total-1501 : Takes 1501 (1501 ∷ []) (answer 1501 2 9 1 0) 0 []
   pub total-3000 : Takes 3000 (3000 ∷ []) (answer 3000 2 9 1 0) 0 []
   -- "If T is below 15,000, all entries go, empty ones too."
-  pub no-entry : Packs (queue [] []) 7 [] (answers (answer 0 0 7 0 0)) []
-  pub empty-entries : Packs (queue [] (0 ∷ 0 ∷ [])) 7 (lent 30) (answers (answer 0 0 7 2 0)) (lent 30)
+  pub no-entry : Packs (queue [] []) 7 [] (answer 0 0 7 0 0) [] nothingKept
+  pub empty-entries : Packs (queue [] (0 ∷ 0 ∷ [])) 7 (lent 30) (answer 0 0 7 2 0) (lent 30) nothingKept
   pub total-14999 : Takes 14999 (0 ∷ 14999 ∷ 0 ∷ 0 ∷ []) (answer 14999 10 17 4 0) 0 []
   -- "Otherwise the entry with the last byte taken goes if used up, and all later ones stay."
   pub total-15000 : Takes 15000 (15000 ∷ 0 ∷ 0 ∷ []) (answer 15000 10 17 1 0) 0 (0 ∷ 0 ∷ [])
