@@ -14,8 +14,9 @@
  * Not looked at are connection ids, version, encrypted bit and mask of what arrives: a packet of another connection is taken like any other.
  * The host holds the headers listed against its own before it gives the datagram to `bluefin_receive` or `bluefin_receive_acks`.
  *
- * Answers. `refusal` is 0, or the number of the refusal; the answer's other numbers are then 0, but for the packets of a listing. A state in an
- * answer is the one to go on with, refused or not. Where a call is refused, lent memory stays as it was, unless the call says otherwise.
+ * Answers. `refusal` is 0, or the number of the refusal; the answer's other numbers are then 0, but for the packets that a datagram's listing
+ * has and the ack of a 5. A state in an answer is the one to go on with, refused or not. Where a call is refused, lent memory stays as it was,
+ * unless the call says otherwise.
  * A cursor comes with 1 to 4: it is the byte of the datagram at which the walk stopped. The 4 of a write comes without one.
  */
 #ifndef BLUEFIN_H
@@ -25,8 +26,9 @@
 #include <stddef.h>
 #include <stdint.h>
 
-/* Rises with every change of the binary interface: a struct, an argument, a number, a new call. With 2 came the waiting time, and refusal 14. */
-#define BLUEFIN_VERSION 2
+/* Rises with every change of the binary interface: a struct, an argument, a number, a new call. With 2 came the waiting time, and refusal 14;
+ * with 3 the ack that accepting gives with a 5, and the packets kept to be sent again, refusal 15. */
+#define BLUEFIN_VERSION 3
 
 #ifdef __cplusplus
 #define BLUEFIN_SIZE(type, size) static_assert(sizeof(type) == size && alignof(type) == 8, #type)
@@ -38,20 +40,21 @@ extern "C" {
 /* ---- refusals */
 
 enum {
-    BLUEFIN_SHORT = 1,           /* under 20 bytes, or a header of another length */
-    BLUEFIN_PAYLOAD_MISSING = 2, /* the payload runs past the datagram's end */
-    BLUEFIN_TAIL = 3,            /* 1 to 19 bytes after the last packet */
-    BLUEFIN_UNKNOWN_TYPE = 4,    /* a packet type above 6 */
-    BLUEFIN_BELOW = 5,           /* a number below the first one expected */
-    BLUEFIN_BEYOND = 6,          /* a number too far ahead */
-    BLUEFIN_ALREADY_HELD = 7,    /* a number that is held */
-    BLUEFIN_EMPTY = 8,           /* nothing to give */
-    BLUEFIN_EXHAUSTED = 9,       /* no packet number left */
-    BLUEFIN_BUFFER_SHORT = 10,   /* lent memory too small */
-    BLUEFIN_OUT_OF_RANGE = 11,   /* a field, a payload or a datagram too large */
-    BLUEFIN_MALFORMED = 12,      /* a state that no call leaves */
-    BLUEFIN_PACKETS_HELD = 13,   /* the start is set while packets are held */
-    BLUEFIN_SAMPLE_TOO_LONG = 14 /* a round trip above 60,000,000 microseconds */
+    BLUEFIN_SHORT = 1,            /* under 20 bytes, or a header of another length */
+    BLUEFIN_PAYLOAD_MISSING = 2,  /* the payload runs past the datagram's end */
+    BLUEFIN_TAIL = 3,             /* 1 to 19 bytes after the last packet */
+    BLUEFIN_UNKNOWN_TYPE = 4,     /* a packet type above 6 */
+    BLUEFIN_BELOW = 5,            /* a number below the first one expected */
+    BLUEFIN_BEYOND = 6,           /* a number too far ahead */
+    BLUEFIN_ALREADY_HELD = 7,     /* a number that is held */
+    BLUEFIN_EMPTY = 8,            /* nothing to give */
+    BLUEFIN_EXHAUSTED = 9,        /* no packet number left */
+    BLUEFIN_BUFFER_SHORT = 10,    /* lent memory too small */
+    BLUEFIN_OUT_OF_RANGE = 11,    /* a field, a payload or a datagram too large */
+    BLUEFIN_MALFORMED = 12,       /* a state that no call leaves */
+    BLUEFIN_PACKETS_HELD = 13,    /* the start is set while packets are held */
+    BLUEFIN_SAMPLE_TOO_LONG = 14, /* a round trip above 60,000,000 microseconds */
+    BLUEFIN_NO_PLACE = 15         /* all 64 places of the packets kept are taken */
 };
 
 /* ---- the header, 20 bytes on the wire */
@@ -141,6 +144,14 @@ typedef struct {
 } bluefin_started;
 BLUEFIN_SIZE(bluefin_started, 40);
 
+/* What accepting answers. With a 5 goes an ack, of the packet's number and count 1, to be queued like a read's; else both are 0. */
+typedef struct {
+    uint64_t ack_base;
+    size_t ack_count;
+    uint8_t refusal;
+} bluefin_accepted;
+BLUEFIN_SIZE(bluefin_accepted, 24);
+
 /* A read's answer: packets that left their slots, the front packet's number or 0, bytes given. */
 typedef struct {
     bluefin_ordered_bytes state;
@@ -170,9 +181,10 @@ bluefin_started bluefin_ordered_bytes_set_start_packet_number(bluefin_ordered_by
                                                               size_t marks_len, const uint32_t *lengths, size_t lengths_len,
                                                               const uint8_t *store, size_t store_len);
 
-/* Accepts a packet: answers 0, or a refusal: 12, 5, 6, 9, 7, 11. The state stays the same. */
-uint8_t bluefin_ordered_bytes_buffer_in_packet(bluefin_ordered_bytes o, uint64_t n, const uint8_t *payload, size_t payload_len, bool *marks,
-                                               size_t marks_len, uint32_t *lengths, size_t lengths_len, uint8_t *store, size_t store_len);
+/* Accepts a packet. Refusals: 12, 5, 6, 9, 7, 11. The state stays the same. */
+bluefin_accepted bluefin_ordered_bytes_buffer_in_packet(bluefin_ordered_bytes o, uint64_t n, const uint8_t *payload, size_t payload_len,
+                                                        bool *marks, size_t marks_len, uint32_t *lengths, size_t lengths_len, uint8_t *store,
+                                                        size_t store_len);
 
 /* Answers 0 where a read would give something, or a refusal: 12, 8. */
 uint8_t bluefin_ordered_bytes_peek(bluefin_ordered_bytes o, const bool *marks, size_t marks_len, const uint32_t *lengths, size_t lengths_len,
@@ -193,8 +205,9 @@ bluefin_consumed_bytes bluefin_ordered_bytes_consume_bytes(bluefin_ordered_bytes
 /*
  * A whole datagram: lists its packets as `bluefin_from_bytes_into` does, and accepts each data packet listed as
  * `bluefin_ordered_bytes_buffer_in_packet` does, in order, with one test of 12 for all. The i-th number of `answers` is what accepting the
- * i-th packet answered; numbers of other packets stay. Refusals: 12, 10 (fewer answers than the index has room for packets), with nothing
- * written and 0 packets; then those of the listing, with the packets listed before them accepted and counted all the same.
+ * i-th packet answered, 0 or the refusal; numbers of other packets stay. A 5 of a data packet means: queue an ack of it, base its number and
+ * count 1; the number stands in the header that the index lists. Refusals: 12, 10 (fewer answers than the index has room for packets), with
+ * nothing written and 0 packets; then those of the listing, with the packets listed before them accepted and counted all the same.
  */
 bluefin_parsed bluefin_receive(bluefin_ordered_bytes o, const uint8_t *datagram, size_t datagram_len, uint32_t *index, size_t index_len,
                                uint8_t *answers, size_t answers_len, bool *marks, size_t marks_len, uint32_t *lengths, size_t lengths_len,
@@ -247,7 +260,8 @@ bluefin_run bluefin_window_consume(bluefin_window w, uint64_t *cells, size_t cel
 
 /*
  * A whole datagram: lists its packets as `bluefin_from_bytes_into` does, and enters each ack listed, base and count, as
- * `bluefin_window_insert_range` does, in order, with one test of 12 for all. Answers and refusals as `bluefin_receive` has them.
+ * `bluefin_window_insert_range` does, in order, with one test of 12 for all. Answers and refusals as `bluefin_receive` has them; a 5 here
+ * asks for no ack.
  */
 bluefin_acks_received bluefin_receive_acks(bluefin_window w, uint64_t *cells, size_t cells_len, const uint8_t *datagram, size_t datagram_len,
                                            uint32_t *index, size_t index_len, uint8_t *answers, size_t answers_len);
@@ -319,6 +333,55 @@ bluefin_cleared bluefin_ring_clear(bluefin_ring ring, bluefin_ack *records, size
 bluefin_acks_packed bluefin_consume_acks_into(bluefin_ring ring, bluefin_ack *records, size_t records_len, size_t used, uint32_t src_conn_id,
                                               uint32_t dst_conn_id, uint8_t *out, size_t out_len);
 
+/* ---- the packets kept to be sent again */
+
+enum {
+    BLUEFIN_PLACES = 64,         /* the most packets that are kept */
+    BLUEFIN_PLACES_BYTES = 97280 /* the most bytes that they have: 64 x 1,520 */
+};
+
+/*
+ * What is small of a store of the packets that were packed and are not yet answered. The rest is lent beside it at every call: numbers, payload
+ * lengths and packets. The number and the payload's length of the i-th packet stand in the i-th cells; the packets, each of 20 bytes and its
+ * payload, stand end to end from the first byte on. BLUEFIN_PLACES numbers, as many lengths and BLUEFIN_PLACES_BYTES bytes are lent, or more.
+ * Every call refuses with 12, before all else, where less is lent, where the count is above 64, and where among the first `count` cells the
+ * numbers do not rise or a length is above 1,500; the packets' bytes are not looked at.
+ * The state and its three lists belong to one sender's counter of packet numbers: who starts the counter again starts the store again.
+ */
+typedef struct {
+    size_t count;
+} bluefin_outstanding;
+BLUEFIN_SIZE(bluefin_outstanding, 8);
+
+typedef struct {
+    size_t packets; /* packets written */
+    uint8_t refusal;
+} bluefin_listed;
+BLUEFIN_SIZE(bluefin_listed, 16);
+
+typedef struct {
+    bluefin_outstanding outstanding;
+    uint8_t refusal;
+} bluefin_dropped;
+BLUEFIN_SIZE(bluefin_dropped, 16);
+
+/* An empty store. The lists may hold anything. */
+bluefin_outstanding bluefin_outstanding_new(void);
+
+/*
+ * Writes the packets kept, by rising number, whole and end to end, to the start of `out`; BLUEFIN_PLACES_BYTES have room for all of them. They
+ * may be more than a datagram has, 65,507 bytes: the payload lengths tell where each packet ends. Refusals: 12, 10.
+ */
+bluefin_listed bluefin_outstanding_list_into(bluefin_outstanding o, uint8_t *out, size_t out_len, const uint64_t *numbers, size_t numbers_len,
+                                             const uint32_t *lengths, size_t lengths_len, const uint8_t *packets, size_t packets_len);
+
+/*
+ * Drops each packet up to the number `last`; those left move to the front, and what stands behind them stays. Call it with the last number of
+ * a run that `bluefin_window_consume` answered, and not where that run's length is 0. Refusal: 12.
+ */
+bluefin_dropped bluefin_outstanding_drop_answered(bluefin_outstanding o, uint64_t last, uint64_t *numbers, size_t numbers_len, uint32_t *lengths,
+                                                  size_t lengths_len, uint8_t *packets, size_t packets_len);
+
 /* ---- packing data, and closing */
 
 typedef struct {
@@ -327,9 +390,10 @@ typedef struct {
     uint64_t next_packet_num; /* the number after the last packet's */
     size_t entries_removed;   /* entries that leave the queue */
     size_t bytes_cut;         /* bytes to cut from the first entry left */
+    bluefin_outstanding outstanding;
     uint8_t refusal;
 } bluefin_data_packed;
-BLUEFIN_SIZE(bluefin_data_packed, 48);
+BLUEFIN_SIZE(bluefin_data_packed, 56);
 
 typedef struct {
     uint64_t number;
@@ -339,13 +403,17 @@ typedef struct {
 BLUEFIN_SIZE(bluefin_reserved, 24);
 
 /*
- * Packs up to 15,000 bytes of a queue, whose entries' bytes stand end to end and whose lengths stand in `lengths`, into packets of up to
- * 1,500, from the start of `out`; 15,200 bytes have room for all of them. The queue is the caller's to shorten by what is answered.
- * Refusals: 12, 9, 10.
+ * Packs a queue, whose entries' bytes stand end to end and whose lengths stand in `lengths`, into packets of up to 1,500, from the start of
+ * `out`, and keeps each packet in the store, behind those kept before. It takes up to 15,000 bytes, and no more than 1,500 for each free place,
+ * of which the store has 64 less its count; so it makes no more packets than there are free places. 15,200 bytes of `out` have room for all of
+ * them. The queue is the caller's to shorten by what is answered. Refusals: 12 (the store's, also where a number kept is not below
+ * next_packet_num; lengths that do not add up to the bytes), 9, 10, 15 (no free place, even with nothing queued). All of them leave output,
+ * state and lists as they were.
  */
-bluefin_data_packed bluefin_consume_data_into(const uint8_t *bytes, size_t bytes_len, const uint32_t *lengths, size_t lengths_len,
-                                              uint64_t next_packet_num, uint32_t src_conn_id, uint32_t dst_conn_id, uint8_t *out,
-                                              size_t out_len);
+bluefin_data_packed bluefin_consume_data_into(bluefin_outstanding o, const uint8_t *bytes, size_t bytes_len, const uint32_t *lengths,
+                                              size_t lengths_len, uint64_t next_packet_num, uint32_t src_conn_id, uint32_t dst_conn_id,
+                                              uint8_t *out, size_t out_len, uint64_t *numbers, size_t numbers_len, uint32_t *payload_lengths,
+                                              size_t payload_lengths_len, uint8_t *packets, size_t packets_len);
 
 /* The fields of all packets of a datagram, added up to where one would run past its end. */
 size_t bluefin_payload_bytes_in_datagram(const uint8_t *datagram, size_t datagram_len);

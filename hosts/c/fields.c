@@ -118,8 +118,11 @@ static void buffer(void) {
     EXPECT(same_state(started.state, 0, 100, 0));
     bluefin_ordered_bytes o = started.state;
     EXPECT(bluefin_ordered_bytes_peek(o, LENT) == BLUEFIN_EMPTY);
-    EXPECT(ACCEPT(o, 99, 1) == BLUEFIN_BELOW && ACCEPT(o, 104, 1) == BLUEFIN_BEYOND && ACCEPT(o, 101, 8) == BLUEFIN_OUT_OF_RANGE);
-    EXPECT(ACCEPT(o, 101, 6) == 0 && ACCEPT(o, 101, 6) == BLUEFIN_ALREADY_HELD);
+    bluefin_accepted below = ACCEPT(o, 99, 1), beyond = ACCEPT(o, 104, 1);
+    EXPECT(below.ack_base == 99 && below.ack_count == 1 && below.refusal == BLUEFIN_BELOW);
+    EXPECT(beyond.ack_base == 0 && beyond.ack_count == 0 && beyond.refusal == BLUEFIN_BEYOND);
+    EXPECT(ACCEPT(o, 101, 8).refusal == BLUEFIN_OUT_OF_RANGE);
+    EXPECT(ACCEPT(o, 101, 6).refusal == 0 && ACCEPT(o, 101, 6).refusal == BLUEFIN_ALREADY_HELD);
     started = bluefin_ordered_bytes_set_start_packet_number(o, 5, LENT);
     EXPECT(started.refusal == BLUEFIN_PACKETS_HELD);
     EXPECT(same_state(started.state, 0, 100, 0));
@@ -134,7 +137,9 @@ static void buffer(void) {
     EXPECT(read.num_packets_consumed == 2 && read.base_packet_number == 100 && read.bytes_consumed == 8 && read.refusal == 0);
     EXPECT(same_state(read.state, 2, 102, 3));
     o = read.state;
-    EXPECT(ACCEPT(o, 102, 1) == 0 && ACCEPT(o, 103, 4) == 0 && ACCEPT(o, 104, 7) == 0);
+    told = bluefin_receive(o, cut, 45, index, 6, answers, 3, LENT);
+    EXPECT(told.packets == 2 && told.refusal == 0 && answers[0] == BLUEFIN_BELOW && answers[1] == 99);
+    EXPECT(ACCEPT(o, 102, 1).refusal == 0 && ACCEPT(o, 103, 4).refusal == 0 && ACCEPT(o, 104, 7).refusal == 0);
     bluefin_consumed_bytes pieces = bluefin_ordered_bytes_consume_bytes(o, 4, buf, sizeof buf, list, SLOTS, LENT);
     EXPECT(pieces.num_packets_consumed == 3 && pieces.base_packet_number == 102 && pieces.bytes_consumed == 15);
     EXPECT(pieces.pieces == 4 && pieces.refusal == 0);
@@ -203,15 +208,59 @@ static void rings(void) {
     EXPECT(cleared.ring.len == 0 && cleared.refusal == 0);
 }
 
+/* Packing into a store, and the store's own calls. */
 static void packing(void) {
-    static uint8_t bytes[20010], out[15200];
+    static uint8_t bytes[20010], out[15200], packets[BLUEFIN_PLACES_BYTES], listing[BLUEFIN_PLACES_BYTES];
     static const uint32_t lengths[3] = {4, 6, 20000};
-    bluefin_data_packed data = bluefin_consume_data_into(bytes, sizeof bytes, lengths, 3, 100, 1, 2, out, sizeof out);
-    EXPECT(data.bytes == 15000 && data.packets == 10 && data.next_packet_num == 110 && data.refusal == 0);
-    EXPECT(data.entries_removed == 2 && data.bytes_cut == 14990);
-    static const uint8_t first[20] = {3, 0x05, 0xdc, 0, 0, 0, 0, 1, 0, 0, 0, 2, 0, 0, 0, 0, 0, 0, 0, 100};
+    static uint32_t payload_lengths[BLUEFIN_PLACES];
+    static uint64_t numbers[BLUEFIN_PLACES];
+#define LENT numbers, BLUEFIN_PLACES, payload_lengths, BLUEFIN_PLACES, packets, sizeof packets
+#define PACK(o, length, entries, next, room) bluefin_consume_data_into(o, bytes, length, lengths, entries, next, 1, 2, out, room, LENT)
+#define LIST(o, room) bluefin_outstanding_list_into(o, listing, room, LENT)
+    for (size_t i = 0; i < sizeof bytes; i++)
+        bytes[i] = (uint8_t)(i * 31 + i / 256);
+    bluefin_outstanding o = bluefin_outstanding_new();
+    EXPECT(o.count == 0);
+    static const uint32_t first_lengths[1] = {3007};
+    bluefin_data_packed data = bluefin_consume_data_into(o, bytes, 3007, first_lengths, 1, 100, 1, 2, out, sizeof out, LENT);
+    EXPECT(data.outstanding.count == 3 && data.packets == 3 && data.next_packet_num == 103 && data.refusal == 0);
+    EXPECT(memcmp(packets, out, 3067) == 0 && packets[3067] == 0);
+    EXPECT(numbers[0] == 100 && numbers[2] == 102 && payload_lengths[1] == 1500 && payload_lengths[2] == 7 && numbers[3] == 0);
+    o = data.outstanding;
+
+    data = PACK(o, sizeof bytes, 3, 103, sizeof out);
+    EXPECT(data.bytes == 15000 && data.packets == 10 && data.next_packet_num == 113 && data.refusal == 0);
+    EXPECT(data.entries_removed == 2 && data.bytes_cut == 14990 && data.outstanding.count == 13);
+    static const uint8_t first[20] = {3, 0x05, 0xdc, 0, 0, 0, 0, 1, 0, 0, 0, 2, 0, 0, 0, 0, 0, 0, 0, 103};
     EXPECT(memcmp(out, first, 20) == 0);
     EXPECT(bluefin_payload_bytes_in_datagram(out, 3039) == 1500);
+    o = data.outstanding;
+
+    bluefin_listed listed = LIST(o, 18266);
+    EXPECT(listed.packets == 0 && listed.refusal == BLUEFIN_BUFFER_SHORT && listing[0] == 0);
+    listed = LIST(o, 18267);
+    EXPECT(listed.packets == 13 && listed.refusal == 0 && memcmp(listing, packets, 3067) == 0 && memcmp(listing + 3067, out, 15200) == 0);
+    data = PACK(o, 10, 2, 112, sizeof out);
+    EXPECT(data.packets == 0 && data.outstanding.count == 13 && data.refusal == BLUEFIN_MALFORMED);
+    EXPECT(PACK(o, 10, 2, 113, 29).refusal == BLUEFIN_BUFFER_SHORT && PACK(o, 10, 2, UINT64_MAX, 29).refusal == BLUEFIN_EXHAUSTED);
+    bluefin_dropped dropped = bluefin_outstanding_drop_answered(o, 101, LENT);
+    EXPECT(dropped.outstanding.count == 11 && dropped.refusal == 0);
+    EXPECT(numbers[0] == 102 && payload_lengths[0] == 7 && memcmp(packets, listing + 3040, 15227) == 0);
+
+    for (size_t i = 0; i < BLUEFIN_PLACES; i++)
+        numbers[i] = i;
+    o.count = 62;
+    data = PACK(o, sizeof bytes, 3, 100, sizeof out);
+    EXPECT(data.bytes == 3000 && data.packets == 2 && data.entries_removed == 2 && data.bytes_cut == 2990 && data.outstanding.count == 64);
+    o = data.outstanding;
+    data = PACK(o, 0, 0, 102, 0);
+    EXPECT(data.bytes == 0 && data.next_packet_num == 0 && data.outstanding.count == 64 && data.refusal == BLUEFIN_NO_PLACE);
+    o.count = 65;
+    dropped = bluefin_outstanding_drop_answered(o, 101, LENT);
+    EXPECT(dropped.outstanding.count == 65 && dropped.refusal == BLUEFIN_MALFORMED && LIST(o, 0).refusal == BLUEFIN_MALFORMED);
+#undef LENT
+#undef PACK
+#undef LIST
 }
 
 static bool same_close(bluefin_close_record c, uint8_t state, uint64_t state_fin, uint64_t pending, uint64_t received) {

@@ -1,5 +1,6 @@
 // The receive buffer: net/ordered_bytes.rs for hosts.
 // Proved: what each call answers and leaves is the flat form of the definition in crates/ordered_bytes.
+use flat::buffer::Accepted;
 use flat::buffer::Consumed;
 use flat::buffer::ConsumedBytes;
 use flat::buffer::Started;
@@ -55,7 +56,7 @@ pub extern "C" fn bluefin_ordered_bytes_buffer_in_packet(
     marks: &mut [bool],
     lengths: &mut [SlotLength],
     store: &mut [u8],
-) -> u8
+) -> Accepted
     ensures { λ r. ⌜ (r, bufferOf o (now (marks .exit)) (now (lengths .exit)) (now (store .exit)))
         ≡ flatAcceptance (accepting (bufferOf o (now (marks .entry)) (now (lengths .entry)) (now (store .entry))) n (now (payload .entry))) ⌝ }
 {

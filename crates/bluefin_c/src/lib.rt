@@ -7,6 +7,7 @@ mod closing;
 mod datagrams;
 mod headers;
 mod hello;
+mod kept;
 mod packets;
 mod ring;
 mod sending;

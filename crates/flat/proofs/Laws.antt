@@ -2,10 +2,11 @@
 -- Assumes nothing.
 use mathlib.Core.Path.{_≡_, ap, _∙_, refl}
 use Prim.Native.Nat.{ℕ, _<_, _≤_, zero, suc}
+use mathlib.Core.Option.{Option}
 use mathlib.Core.List.{List}
 use borrow.Author.Tests.{lt-ltb, le-leb, lt-leb}
 use mathlib.Core.Bool.{Bool}
-use Rattle.refusal.specs.Said.{Said, refusalIn}
+use Rattle.refusal.specs.Said.{Said}
 use Rattle.flat.specs.Answers.{firstBy}
 use Rattle.window.specs.Window as acked
 use Rattle.window.specs.declared.SlidingWindow.{SlidingWindow}
@@ -16,9 +17,10 @@ use Rattle.ordered_bytes.specs.declared.OrderedBytes.{OrderedBytes}
 use Rattle.ordered_bytes.specs.Buffer.{Buffer, bufferOf}
 use Rattle.ordered_bytes.specs.Calls.{Creation, Acceptance, Consumption, PieceConsumption}
 use Rattle.flat.specs.declared.buffer.Started.{Started}
+use Rattle.flat.specs.declared.buffer.Accepted.{Accepted}
 use Rattle.flat.specs.declared.buffer.Consumed.{Consumed}
 use Rattle.flat.specs.declared.buffer.ConsumedBytes.{ConsumedBytes}
-use Rattle.flat.specs.Buffer.{noBuffer, startedOf, consumedOf, consumedBytesOf, flatCreation, flatAcceptance, flatConsumption, flatPieces}
+use Rattle.flat.specs.Buffer.{noBuffer, startedOf, acceptedOf, consumedOf, consumedBytesOf, flatCreation, flatAcceptance, flatConsumption, flatPieces}
 use Rattle.receive.specs.Datagram.{Acks, Reception}
 use Rattle.flat.specs.declared.packets.Parsed.{Parsed}
 use Rattle.flat.specs.declared.datagrams.AcksReceived.{AcksReceived}
@@ -58,10 +60,10 @@ pub flat-creation : {r : Started} {s : Said OrderedBytes} {m : List Bool} {l : L
     _≡_ {A = Started × List Bool × List ℕ} (r, m, l) (flatCreation d)
 flat-creation {m = m} {l = l} is says = ap {B = Started × List Bool × List ℕ} (λ x. (x, m, l)) is ∙ ap flatCreation says
 
-pub flat-acceptance : {r : ℕ} {s : Said Unit} {b : Buffer} {d : Acceptance} →
-    r ≡ refusalIn s → record { said = s; buffer = b } ≡ d →
-    _≡_ {A = ℕ × Buffer} (r, b) (flatAcceptance d)
-flat-acceptance {b = b} is says = ap {B = ℕ × Buffer} (λ x. (x, b)) is ∙ ap flatAcceptance says
+pub flat-acceptance : {r : Accepted} {s : Said Unit} {ack : Option (ℕ × ℕ × ℕ)} {b : Buffer} {d : Acceptance} →
+    r ≡ acceptedOf s ack → record { said = s; ack = ack; buffer = b } ≡ d →
+    _≡_ {A = Accepted × Buffer} (r, b) (flatAcceptance d)
+flat-acceptance {b = b} is says = ap {B = Accepted × Buffer} (λ x. (x, b)) is ∙ ap flatAcceptance says
 
 pub flat-consumption : {r : Consumed} {s : Said (ℕ × ℕ × ℕ)} {o : OrderedBytes} {m : List Bool} {l t out : List ℕ} {d : Consumption} →
     r ≡ consumedOf o s → record { said = s; buffer = bufferOf o m l t; out = out } ≡ d →

@@ -9,3 +9,4 @@ pub mod Datagrams
 pub mod Closing
 pub mod Hello
 pub mod Waiting
+pub mod Kept

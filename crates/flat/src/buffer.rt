@@ -1,19 +1,27 @@
 // The answers of crates/ordered_bytes as hosts have them: the state to go on with stands in each that may change it, refused or not.
-// Proved: each conversion is that of specs/Buffers.antt.
-use ordered_bytes::Accepted;
+// Proved: each conversion is that of specs/Buffer.antt.
 use ordered_bytes::ConsumeAnswer;
 use ordered_bytes::ConsumeBytesAnswer;
 use ordered_bytes::Created;
 use ordered_bytes::OrderedBytes;
 use ordered_bytes::Peeked;
+use refusal::Refusal;
 ghost use mathlib.Core.Path.{_≡_};
 ghost use Rattle.refusal.specs.Said.{refusalIn};
-ghost use Rattle.ordered_bytes.specs.Calls.{createdSays, startedSays, acceptedSays, peekedSays, consumedSays, consumedBytesSays};
-ghost use Rattle.flat.specs.Buffer.{noBuffer, startedOf, consumedOf, consumedBytesOf};
+ghost use Rattle.ordered_bytes.specs.Calls.{createdSays, startedSays, acceptedSays, acceptedAck, peekedSays, consumedSays, consumedBytesSays};
+ghost use Rattle.flat.specs.Buffer.{noBuffer, startedOf, acceptedOf, consumedOf, consumedBytesOf};
 
 #[repr(C)]
 pub struct Started {
     pub state: OrderedBytes,
+    pub refusal: u8,
+}
+
+// The ack is refusal 5's: its base and its count are 0 with every other answer.
+#[repr(C)]
+pub struct Accepted {
+    pub ack_base: u64,
+    pub ack_count: usize,
     pub refusal: u8,
 }
 
@@ -77,12 +85,25 @@ pub fn started_of(o: OrderedBytes, answer: ordered_bytes::Started) -> Started
     }
 }
 
-pub fn accepted_of(answer: Accepted) -> u8
-    ensures { λ r. ⌜ r ≡ refusalIn (acceptedSays answer) ⌝ }
+pub fn accepted_of(answer: ordered_bytes::Accepted) -> Accepted
+    ensures { λ r. ⌜ r ≡ acceptedOf (acceptedSays answer) (acceptedAck answer) ⌝ }
 {
     match answer {
-        Accepted::Stored => 0,
-        Accepted::Refused(r) => refusal::number(r),
+        ordered_bytes::Accepted::Stored => Accepted {
+            ack_base: 0,
+            ack_count: 0,
+            refusal: 0,
+        },
+        ordered_bytes::Accepted::Below(c) => Accepted {
+            ack_base: c.base_packet_number,
+            ack_count: c.num_packets_consumed,
+            refusal: refusal::number(Refusal::Below),
+        },
+        ordered_bytes::Accepted::Refused(r) => Accepted {
+            ack_base: 0,
+            ack_count: 0,
+            refusal: refusal::number(r),
+        },
     }
 }
 

@@ -1,39 +1,138 @@
 //! A sender and a receiver in one program: packs a queue, parses the datagram, accepts its packets out of order, reads until nothing
-//! is left, sends acks back and consumes the window; then the same by one call for a datagram, how long to wait after two round trips,
-//! and a FIN in a datagram of its own. It checks each answer, prints what it saw, and panics where anything is off. hosts/c/main.c is
-//! the same program; hosts/expected is what both print.
+//! is left, sends acks back, consumes the window and drops what is answered; then packs a longer queue into datagrams that are lost,
+//! sends again what was kept, and receives it by one call for a datagram; then how long to wait after two round trips, and a FIN in a
+//! datagram of its own. It checks each answer, prints what it saw, and panics where anything is off. hosts/c/main.c is the same program;
+//! hosts/expected is what both print.
 
 use bluefin::{
     consume_data_into, header_deserialise, is_client_ack_packet, is_hello_packet,
     payload_bytes_in_datagram, reserve_close_packet_num, write_fin, write_fin_ack, Ack, AckRing,
-    CloseRecord, CloseState, DataPacked, Header, Host, Index, OrderedBytes, PacketType, Refusal,
-    RttEstimator, SlidingWindow, PACKED_DATAGRAM,
+    CloseRecord, CloseState, DataPacked, Header, Host, Index, OrderedBytes, Outstanding, Packet,
+    PacketType, Refusal, RttEstimator, SlidingWindow, LARGEST_DATAGRAM, PACKED_DATAGRAM, PLACES,
+    PLACES_BYTES,
 };
 use std::time::Duration;
 
-const SLOTS: usize = 8;
+// As many slots and cells as there are places: no packet that is kept is beyond the receiver, and no ack of one finds no cell.
+const SLOTS: usize = PLACES;
+const CELLS: usize = PLACES;
 const WIDTH: usize = 1500;
-const LINES: usize = 70;
+/// The lines of the first packing, and of all those that are lost: 64 packets of 1,500 bytes.
+const FEW: usize = 70;
+const LINES: usize = 2000;
+const LINE: usize = 48;
 const START: u64 = 100;
-const CELLS: usize = 16;
 const ACKS: usize = 4;
-const PACKETS: usize = 16;
 const SENDER: u32 = 1;
 const RECEIVER: u32 = 2;
 
-/// Packs the queue into one datagram.
-fn send_all(queue: &[u8], lengths: &[u32]) -> (DataPacked, Vec<u8>) {
-    let mut datagram = vec![0; PACKED_DATAGRAM];
-    let data = consume_data_into(queue, lengths, START, SENDER, RECEIVER, &mut datagram).unwrap();
-    let removed = (data.bytes, data.entries_removed, data.bytes_cut);
-    assert_eq!(removed, (queue.len(), LINES, 0));
-    println!(
-        "packed {} bytes of {LINES} entries into {} packets, next number {}",
-        data.bytes, data.packets, data.next_packet_num
-    );
-    datagram.truncate(data.bytes + 20 * data.packets);
-    assert_eq!(payload_bytes_in_datagram(&datagram), queue.len());
-    (data, datagram)
+/// The next number, the packets kept, and the window of what is acked of them.
+struct Sender {
+    next: u64,
+    kept: Outstanding,
+    window: SlidingWindow,
+}
+
+impl Sender {
+    /// Packs into one datagram, and keeps its packets.
+    fn pack(&mut self, queue: &[u8], lengths: &[u32]) -> Result<(DataPacked, Vec<u8>), Refusal> {
+        let mut out = vec![0; PACKED_DATAGRAM];
+        let (next, kept) = (self.next, &mut self.kept);
+        let data = consume_data_into(kept, queue, lengths, next, SENDER, RECEIVER, &mut out)?;
+        self.next = data.next_packet_num;
+        out.truncate(data.bytes + 20 * data.packets);
+        Ok((data, out))
+    }
+
+    /// Packs the first lines, which one datagram has room for.
+    fn send_few(&mut self, queue: &[u8], lengths: &[u32]) -> Vec<u8> {
+        let (data, datagram) = self.pack(queue, lengths).unwrap();
+        let removed = (data.bytes, data.entries_removed, data.bytes_cut);
+        assert_eq!(removed, (queue.len(), FEW, 0));
+        println!(
+            "packed {} bytes of {FEW} entries into {} packets, next number {}, {} kept",
+            data.bytes,
+            data.packets,
+            self.next,
+            self.kept.len()
+        );
+        assert_eq!(payload_bytes_in_datagram(&datagram), queue.len());
+        datagram
+    }
+
+    /// Packs all lines into datagrams that never arrive, until no place is free.
+    fn send_all_lost(&mut self, queue: &[u8], lengths: &[u32]) {
+        let mut lengths = lengths.to_vec();
+        let (mut bytes, mut entries, mut lost) = (0, 0, 0);
+        let refusal = loop {
+            let data = match self.pack(&queue[bytes..], &lengths[entries..]) {
+                Ok((data, _)) => data,
+                Err(refusal) => break refusal,
+            };
+            bytes += data.bytes;
+            entries += data.entries_removed;
+            if let Some(first) = lengths.get_mut(entries) {
+                *first -= data.bytes_cut as u32;
+            }
+            lost += 1;
+        };
+        let all = (Refusal::NoPlace, queue.len(), LINES);
+        assert_eq!((refusal, bytes, entries), all);
+        println!(
+            "packed {bytes} bytes into {lost} datagrams, which are lost; {} packets kept, then refused {}",
+            self.kept.len(),
+            refusal.number()
+        );
+    }
+
+    /// Lists the packets kept, and sends them again in datagrams of whole packets: they may be more than one has room for.
+    fn send_again(&self, buffer: &mut OrderedBytes) {
+        let mut listing = vec![0; PLACES_BYTES];
+        let listed = self.kept.list_into(&mut listing);
+        assert_eq!(listed, Ok(self.kept.len()));
+        let (mut start, mut end) = (0, 0);
+        for &length in self.kept.payload_lengths() {
+            let packet = 20 + length as usize;
+            if end + packet - start > LARGEST_DATAGRAM {
+                receive_again(buffer, &listing[start..end]);
+                start = end;
+            }
+            end += packet;
+        }
+        receive_again(buffer, &listing[start..end]);
+    }
+
+    /// Packs the queued acks, enters them into the window, consumes it, and drops the packets that are answered.
+    fn acknowledge(&mut self, mut ring: AckRing) {
+        let mut acks = [0; 20 * ACKS];
+        let packed = ring
+            .consume_acks_into(0, RECEIVER, SENDER, &mut acks)
+            .unwrap();
+        assert!(packed.to_send && ring.is_empty());
+        for ack in acks.chunks_exact(20).take(packed.acks) {
+            let header = from(RECEIVER, SENDER, header_deserialise(ack).unwrap());
+            assert_eq!(header.packet_type, PacketType::Ack);
+        }
+
+        let mut index = Index::with_room_for(ACKS);
+        let acks = &acks[..20 * packed.acks];
+        let received = self.window.receive_acks(acks, &mut index);
+        assert_eq!(received, Ok(packed.acks));
+        assert!(index.answers().iter().all(|&answer| answer == 0));
+
+        let expected = self.window.smallest_expected();
+        let again = self.window.insert_range(expected, 1);
+        assert_eq!(again, Err(Refusal::AlreadyHeld));
+        let run = self.window.consume().unwrap();
+        self.kept.drop_answered(run.last);
+        println!(
+            "{} acks: numbers to {} are acknowledged, {} of them; {} kept",
+            packed.acks,
+            run.last,
+            run.length,
+            self.kept.len()
+        );
+    }
 }
 
 /// A header that arrived from one end at the other; what the library does not look at is looked at here.
@@ -48,13 +147,45 @@ fn from(source: u32, destination: u32, header: Header) -> Header {
     header
 }
 
-/// Reads until refusal 8, holds what was read against the queue, and queues an ack for each read that took packets.
-fn read_all(buffer: &mut OrderedBytes, queue: &[u8]) -> AckRing {
+/// A packet that was read is refused with 5. Its ack may be lost, so it is given once more, to be queued like a read's.
+fn accept_again(buffer: &mut OrderedBytes, packet: Packet) {
+    let again = buffer
+        .buffer_in_packet(packet.header.packet_number, packet.payload)
+        .unwrap_err();
+    assert_eq!(again.refusal, Refusal::Below);
+    let ack = again.ack.unwrap();
+    println!(
+        "given again: refused {}, to be acked from {}, {} packets",
+        again.refusal.number(),
+        ack.base_packet_num,
+        ack.num_packets_consumed
+    );
+}
+
+/// A datagram that is sent again: its headers are looked at, then it is received by one call.
+fn receive_again(buffer: &mut OrderedBytes, datagram: &[u8]) {
+    let mut index = Index::with_room_for(SLOTS);
+    let packets = index.from_bytes(datagram).unwrap();
+    for packet in index.packets(datagram) {
+        let header = from(SENDER, RECEIVER, packet.header);
+        assert_eq!(header.packet_type, PacketType::Data);
+    }
+    assert_eq!(buffer.receive(datagram, &mut index), Ok(packets));
+    assert!(index.answers().iter().all(|&answer| answer == 0));
+    println!(
+        "sent again {} bytes: {packets} packets received by one call",
+        datagram.len()
+    );
+}
+
+/// Reads by so many bytes until refusal 8, holds what was read against what was queued, and queues an ack for each read that took
+/// packets.
+fn read_all(buffer: &mut OrderedBytes, by: usize, queue: &[u8]) -> AckRing {
     let mut all: Vec<u8> = Vec::new();
     let mut ring = AckRing::new(ACKS);
     loop {
-        let mut piece = [0; 1024];
-        let read = match buffer.consume(1024, &mut piece) {
+        let mut piece = vec![0; by];
+        let read = match buffer.consume(by, &mut piece) {
             Ok(read) => read,
             Err(refusal) => {
                 assert_eq!(refusal, Refusal::Empty);
@@ -83,32 +214,6 @@ fn read_all(buffer: &mut OrderedBytes, queue: &[u8]) -> AckRing {
     ring
 }
 
-/// Packs the queued acks, enters them into the window, and consumes it.
-fn acknowledge(mut ring: AckRing) {
-    let mut acks = [0; 20 * ACKS];
-    let packed = ring
-        .consume_acks_into(0, RECEIVER, SENDER, &mut acks)
-        .unwrap();
-    assert!(packed.to_send && ring.is_empty());
-    for ack in acks.chunks_exact(20).take(packed.acks) {
-        let header = from(RECEIVER, SENDER, header_deserialise(ack).unwrap());
-        assert_eq!(header.packet_type, PacketType::Ack);
-    }
-
-    let mut window = SlidingWindow::new(START, CELLS);
-    let mut index = Index::with_room_for(PACKETS);
-    let received = window.receive_acks(&acks[..20 * packed.acks], &mut index);
-    assert_eq!(received, Ok(packed.acks));
-    assert!(index.answers().iter().all(|&answer| answer == 0));
-
-    assert_eq!(window.insert_range(START, 1), Err(Refusal::AlreadyHeld));
-    let run = window.consume().unwrap();
-    println!(
-        "{} acks: numbers to {} are acknowledged, {} of them",
-        packed.acks, run.last, run.length
-    );
-}
-
 /// How long the sender waits for an ack before it sends again: before any trip, and after two.
 fn measure() {
     let mut trips = RttEstimator::new();
@@ -131,14 +236,14 @@ fn send_fin(next_packet_num: u64) -> (CloseRecord, [u8; 20]) {
     assert_eq!(number, next_packet_num);
     let mut fin = [0; 20];
     assert_eq!(write_fin(SENDER, RECEIVER, number, &mut fin), Ok(20));
-    let mut sender = CloseRecord::new(false);
-    sender.record_local_fin_sent(number);
-    (sender, fin)
+    let mut local = CloseRecord::new(false);
+    local.record_local_fin_sent(number);
+    (local, fin)
 }
 
 /// The FIN is due where the front number is its own. It is answered by a FIN-ACK of its number, alone too; each end keeps its close
 /// record.
-fn close_both(mut sender: CloseRecord, fin: [u8; 20], front_number: u64) {
+fn close_both(mut local: CloseRecord, fin: [u8; 20], front_number: u64) {
     let header = from(SENDER, RECEIVER, header_deserialise(&fin).unwrap());
     let number = header.packet_number;
     assert_eq!(
@@ -158,10 +263,10 @@ fn close_both(mut sender: CloseRecord, fin: [u8; 20], front_number: u64) {
     let header = from(RECEIVER, SENDER, header_deserialise(&answer).unwrap());
     let told = (header.packet_type, header.packet_number);
     assert_eq!(told, (PacketType::FinAck, number));
-    sender.buffer_in_fin_ack(header.packet_number);
-    assert_eq!(sender.received_fin_ack_for(), Some(number));
-    sender.mark_closed();
-    assert_eq!(sender.state(), CloseState::Closed);
+    local.buffer_in_fin_ack(header.packet_number);
+    assert_eq!(local.received_fin_ack_for(), Some(number));
+    local.mark_closed();
+    assert_eq!(local.state(), CloseState::Closed);
     println!("FIN {number}, in a datagram of its own, is answered, and closes");
 }
 
@@ -169,13 +274,18 @@ fn main() {
     let hello = Header::new(SENDER, 0, PacketType::ClientHello, 0, 0);
     assert!(is_hello_packet(Host::PackLeader, hello));
     assert!(!is_client_ack_packet(Host::PackLeader, hello));
-    let line = |i| format!("{i:03} pack my box with five dozen liquor jugs....\n");
-    let lines: Vec<String> = (1..=LINES).map(line).collect();
-    let queue = lines.concat().into_bytes();
-    let lengths: Vec<u32> = lines.iter().map(|line| line.len() as u32).collect();
-    let (data, datagram) = send_all(&queue, &lengths);
+    let line = |i| format!("{i:04} pack my box with five dozen liquor jugs...\n");
+    let queue = (1..=LINES).map(line).collect::<String>().into_bytes();
+    let lengths = [LINE as u32; LINES];
+    let few = &queue[..FEW * LINE];
+    let mut sender = Sender {
+        next: START,
+        kept: Outstanding::new(),
+        window: SlidingWindow::new(START, CELLS),
+    };
+    let datagram = sender.send_few(few, &lengths[..FEW]);
 
-    let mut index = Index::with_room_for(PACKETS);
+    let mut index = Index::with_room_for(SLOTS);
     let packets = index.from_bytes(&datagram).unwrap();
     println!("parsed {packets} packets of {} bytes", datagram.len());
     let less = &datagram[..datagram.len() - 1];
@@ -204,16 +314,17 @@ fn main() {
         assert_eq!(accepted, Ok(()));
     }
     let again = buffer.buffer_in_packet(START, listed[0].payload);
-    assert_eq!(again, Err(Refusal::AlreadyHeld));
-    acknowledge(read_all(&mut buffer, &queue));
+    assert_eq!(again.unwrap_err().refusal, Refusal::AlreadyHeld);
+    let ring = read_all(&mut buffer, 1024, few);
+    accept_again(&mut buffer, listed[0]);
+    sender.acknowledge(ring);
 
-    let mut buffer = OrderedBytes::new(SLOTS, WIDTH, START).unwrap();
-    assert_eq!(buffer.receive(&datagram, &mut index), Ok(packets));
-    assert!(index.answers().iter().all(|&answer| answer == 0));
-    println!("received {packets} packets by one call");
-    acknowledge(read_all(&mut buffer, &queue));
+    sender.send_all_lost(&queue, &lengths);
+    sender.send_again(&mut buffer);
+    sender.acknowledge(read_all(&mut buffer, LARGEST_DATAGRAM, &queue));
+    assert!(sender.kept.is_empty());
 
     measure();
-    let (sender, fin) = send_fin(data.next_packet_num);
-    close_both(sender, fin, buffer.front_number());
+    let (local, fin) = send_fin(sender.next);
+    close_both(local, fin, buffer.front_number());
 }

@@ -131,7 +131,8 @@ impl Index {
     }
 
     /// For each packet listed, what accepting it (`OrderedBytes::receive`) or entering it (`SlidingWindow::receive_acks`) answered:
-    /// the number of a refusal, or 0. Packets of other types have 0.
+    /// the number of a refusal, or 0. Packets of other types have 0. Where accepting answered 5, an ack of that packet is to be queued:
+    /// base its number, count 1.
     pub fn answers(&self) -> &[u8] {
         &self.answers[..self.listed]
     }

@@ -1,8 +1,8 @@
 //! The receive buffer.
 
 use crate::datagram::Index;
-use crate::refusal::{Refusal, RefusedAt};
-use crate::sys;
+use crate::refusal::{NotAccepted, Refusal, RefusedAt};
+use crate::sys::{self, Ack};
 
 const MOST_SLOTS: usize = 2_000;
 const WIDEST_SLOT: usize = 65_535;
@@ -83,11 +83,11 @@ impl OrderedBytes {
         Refusal::or(started.refusal, ())
     }
 
-    /// Accepts the packet of a number; its payload is copied. Refusals: 5, 6, 9, 7, 11 (longer than a slot is wide).
-    pub fn buffer_in_packet(&mut self, number: u64, payload: &[u8]) -> Result<(), Refusal> {
+    /// Accepts the packet of a number; its payload is copied. Refusals: 5, with an ack, 6, 9, 7, 11 (longer than a slot is wide).
+    pub fn buffer_in_packet(&mut self, number: u64, payload: &[u8]) -> Result<(), NotAccepted> {
         // SAFETY: each pointer stands beside the length of its slice; what is written is owned here, so nothing overlaps. A `bool`
         // of Rust is 0 or 1.
-        let refusal = unsafe {
+        let accepted = unsafe {
             sys::bluefin_ordered_bytes_buffer_in_packet(
                 self.state,
                 number,
@@ -101,7 +101,13 @@ impl OrderedBytes {
                 self.store.len(),
             )
         };
-        Refusal::or(refusal, ())
+        Refusal::or(accepted.refusal, ()).map_err(|refusal| NotAccepted {
+            refusal,
+            ack: (refusal == Refusal::Below).then_some(Ack {
+                base_packet_num: accepted.ack_base,
+                num_packets_consumed: accepted.ack_count as u32,
+            }),
+        })
     }
 
     /// Whether a read would give something. Refusal: 8.
@@ -182,8 +188,8 @@ impl OrderedBytes {
     }
 
     /// Lists the packets of a datagram as [`Index::from_bytes_into`] does, and accepts each data packet listed, in order; what each
-    /// was answered is in [`Index::answers`]. Answers the packets listed. Refusals: those of the listing, with the packets before
-    /// the refusal listed and accepted all the same.
+    /// was answered is in [`Index::answers`], and says where an ack is owed (5). Answers the packets listed. Refusals: those of the
+    /// listing, with the packets before the refusal listed and accepted all the same.
     pub fn receive(&mut self, datagram: &[u8], index: &mut Index) -> Result<usize, RefusedAt> {
         index.answers.fill(0);
         // SAFETY: as in `buffer_in_packet`; what the index owns is lent alone.
@@ -212,12 +218,19 @@ impl OrderedBytes {
 mod tests {
     use super::*;
 
+    fn refused<T>(refusal: Refusal) -> Result<T, NotAccepted> {
+        Err(NotAccepted { refusal, ack: None })
+    }
+
     #[test]
     fn document_01_samples() {
         let mut buffer = OrderedBytes::new(2_000, 1_500, 100).unwrap();
         let mut buf = [9; 8];
         assert_eq!(buffer.buffer_in_packet(2_099, b""), Ok(()));
-        assert_eq!(buffer.buffer_in_packet(2_100, b""), Err(Refusal::Beyond));
+        assert_eq!(
+            buffer.buffer_in_packet(2_100, b""),
+            refused(Refusal::Beyond)
+        );
         assert_eq!(buffer.buffer_in_packet(100, b"abcde"), Ok(()));
         assert_eq!(buffer.peek(), Ok(()));
         for (len, told) in [(3, (1, 100, 3)), (0, (0, 0, 0)), (2, (0, 0, 2))] {
@@ -237,11 +250,26 @@ mod tests {
     }
 
     #[test]
+    fn a_packet_that_was_read_is_acked_again() {
+        let mut buffer = OrderedBytes::new(2, 4, 100).unwrap();
+        assert_eq!(buffer.buffer_in_packet(100, b"abc"), Ok(()));
+        assert!(buffer.consume(3, &mut [0; 3]).is_ok());
+        let again = buffer.buffer_in_packet(100, b"abc").unwrap_err();
+        let ack = Ack {
+            base_packet_num: 100,
+            num_packets_consumed: 1,
+        };
+        assert_eq!((again.refusal, again.ack), (Refusal::Below, Some(ack)));
+        assert_eq!(again.to_string(), "refusal 5: Below");
+        assert_eq!(buffer.peek(), Err(Refusal::Empty));
+    }
+
+    #[test]
     fn pieces() {
         let mut buffer = OrderedBytes::new(3, 4, 0).unwrap();
         assert_eq!(
             buffer.buffer_in_packet(0, b"abcde"),
-            Err(Refusal::OutOfRange)
+            refused(Refusal::OutOfRange)
         );
         for (number, payload) in [(1, &b""[..]), (0, b"abcd"), (2, b"ef")] {
             assert_eq!(buffer.buffer_in_packet(number, payload), Ok(()));

@@ -1,5 +1,6 @@
 //! Packing queued data, and closing.
 
+use crate::outstanding::Outstanding;
 use crate::refusal::Refusal;
 use crate::sys;
 
@@ -21,9 +22,12 @@ pub struct DataPacked {
     pub bytes_cut: usize,
 }
 
-/// Packs up to 15,000 bytes of a queue, whose entries stand end to end in `bytes` with their lengths in `lengths`, to the start of
-/// `out`; [`PACKED_DATAGRAM`] bytes are never too few. Refusals: 12 (the lengths do not add up to the bytes), 9, 10.
+/// Packs a queue, whose entries stand end to end in `bytes` with their lengths in `lengths`, to the start of `out`, and keeps each
+/// packet to be sent again. It takes up to 15,000 bytes, and no more than 1,500 for each place that is free; [`PACKED_DATAGRAM`] bytes
+/// of `out` are never too few. Refusals: 12 (the lengths do not add up to the bytes, or a number kept is not below the next one), 9, 10,
+/// 15 (no place is free).
 pub fn consume_data_into(
+    kept: &mut Outstanding,
     bytes: &[u8],
     lengths: &[u32],
     next_packet_num: u64,
@@ -31,9 +35,10 @@ pub fn consume_data_into(
     dst_conn_id: u32,
     out: &mut [u8],
 ) -> Result<DataPacked, Refusal> {
-    // SAFETY: each pointer stands beside the length of its slice; `out` is lent alone, the others are only read.
+    // SAFETY: each pointer stands beside the length of its slice; `out` and what the store owns are lent alone, the others are only read.
     let packed = unsafe {
         sys::bluefin_consume_data_into(
+            kept.state,
             bytes.as_ptr(),
             bytes.len(),
             lengths.as_ptr(),
@@ -43,8 +48,15 @@ pub fn consume_data_into(
             dst_conn_id,
             out.as_mut_ptr(),
             out.len(),
+            kept.numbers.as_mut_ptr(),
+            kept.numbers.len(),
+            kept.lengths.as_mut_ptr(),
+            kept.lengths.len(),
+            kept.packets.as_mut_ptr(),
+            kept.packets.len(),
         )
     };
+    kept.state = packed.outstanding;
     let told = DataPacked {
         bytes: packed.bytes,
         packets: packed.packets,
@@ -119,21 +131,26 @@ mod tests {
     fn document_01_samples() {
         let bytes = vec![5; 15_001];
         let mut out = vec![9; PACKED_DATAGRAM];
-        let two = consume_data_into(&bytes[..1_501], &[1_499, 2], 7, 1, 2, &mut out).unwrap();
+        let mut kept = Outstanding::new();
+        let mut pack = |bytes: &[u8], lengths: &[u32], next, out: &mut [u8]| {
+            consume_data_into(&mut kept, bytes, lengths, next, 1, 2, out)
+        };
+        let two = pack(&bytes[..1_501], &[1_499, 2], 7, &mut out).unwrap();
         assert_eq!((two.packets, two.next_packet_num), (2, 9));
         assert_eq!(payload_bytes_in_datagram(&out[..1_541]), 1_501);
-        let ten = consume_data_into(&bytes, &[15_001], 7, 1, 2, &mut out).unwrap();
+        let ten = pack(&bytes, &[15_001], 9, &mut out).unwrap();
         let left = (ten.packets, ten.entries_removed, ten.bytes_cut);
         assert_eq!(left, (10, 0, 15_000));
         for (lengths, next, room, refusal) in [
-            (&[1][..], 7, 21, Refusal::Malformed),
+            (&[1][..], 19, 21, Refusal::Malformed),
             (&[2], u64::MAX, 22, Refusal::Exhausted),
-            (&[2], 7, 21, Refusal::BufferShort),
+            (&[2], 19, 21, Refusal::BufferShort),
         ] {
-            let told = consume_data_into(&bytes[..2], lengths, next, 1, 2, &mut out[..room]);
+            let told = pack(&bytes[..2], lengths, next, &mut out[..room]);
             assert_eq!(told, Err(refusal));
         }
-        assert!(consume_data_into(&[], &[], 7, 1, 2, &mut []).is_ok());
+        assert!(pack(&[], &[], 19, &mut []).is_ok());
+        assert_eq!(kept.len(), 12);
     }
 
     #[test]

@@ -1,5 +1,6 @@
 //! The numbered refusals.
 
+use crate::sys::Ack;
 use std::fmt;
 
 /// Why a call refused; its number is the C header's and the papers'.
@@ -28,16 +29,19 @@ pub enum Refusal {
     BufferShort = 10,
     /// A field, a payload or a datagram too large.
     OutOfRange = 11,
-    /// A state that no call leaves. What this crate's types own never is one; `used` above an output's length is.
+    /// A state that no call leaves. What this crate's types own never is one; `used` above an output's length is, and so are packets
+    /// kept whose numbers are not below the next one.
     Malformed = 12,
     /// The start is set while packets are held.
     PacketsHeld = 13,
     /// A round trip longer than a minute.
     SampleTooLong = 14,
+    /// All 64 places of the packets kept are taken.
+    NoPlace = 15,
 }
 
 impl Refusal {
-    const ALL: [Refusal; 14] = [
+    const ALL: [Refusal; 15] = [
         Refusal::Short,
         Refusal::PayloadMissing,
         Refusal::Tail,
@@ -52,9 +56,10 @@ impl Refusal {
         Refusal::Malformed,
         Refusal::PacketsHeld,
         Refusal::SampleTooLong,
+        Refusal::NoPlace,
     ];
 
-    /// Its number, 1 to 14.
+    /// Its number, 1 to 15.
     pub fn number(self) -> u8 {
         self as u8
     }
@@ -96,16 +101,32 @@ impl fmt::Display for RefusedAt {
 
 impl std::error::Error for RefusedAt {}
 
+/// A refusal of a packet, and the ack that goes with it. There is one with 5 alone: of the packet's number, count 1, to be queued like a
+/// read's, since the ack of that read may be lost.
+#[derive(Clone, Copy, Debug, PartialEq, Eq)]
+pub struct NotAccepted {
+    pub refusal: Refusal,
+    pub ack: Option<Ack>,
+}
+
+impl fmt::Display for NotAccepted {
+    fn fmt(&self, f: &mut fmt::Formatter<'_>) -> fmt::Result {
+        self.refusal.fmt(f)
+    }
+}
+
+impl std::error::Error for NotAccepted {}
+
 #[cfg(test)]
 mod tests {
     use super::*;
 
     #[test]
     fn numbers_go_there_and_back() {
-        for number in 1..=14 {
+        for number in 1..=15 {
             assert_eq!(Refusal::of(number).map(Refusal::number), Some(number));
         }
-        assert_eq!((Refusal::of(0), Refusal::of(15)), (None, None));
+        assert_eq!((Refusal::of(0), Refusal::of(16)), (None, None));
         assert_eq!(Refusal::or(10, ()), Err(Refusal::BufferShort));
     }
 }

@@ -2,7 +2,7 @@
 //! does, and what it must be lent, is said there. The modules beside this one are the safe way to call.
 
 /// The binary interface that this file declares, as the C header counts them.
-pub const VERSION: u32 = 2;
+pub const VERSION: u32 = 3;
 
 macro_rules! c_structs {
     ($($name:ident { $($field:ident: $type:ty),* $(,)? })*) => {
@@ -32,6 +32,7 @@ c_structs! {
     Parsed { packets: usize, cursor: usize, refusal: u8 }
     OrderedBytes { slot_width: usize, front_slot: usize, front_number: u64, carry_len: usize }
     Started { state: OrderedBytes, refusal: u8 }
+    Accepted { ack_base: u64, ack_count: usize, refusal: u8 }
     Consumed {
         state: OrderedBytes,
         num_packets_consumed: usize,
@@ -57,12 +58,16 @@ c_structs! {
     Popped { ring: Ring, ack: Ack, refusal: u8 }
     Cleared { ring: Ring, refusal: u8 }
     AcksPacked { ring: Ring, acks: usize, to_send: bool, refusal: u8 }
+    Outstanding { count: usize }
+    Listed { packets: usize, refusal: u8 }
+    Dropped { outstanding: Outstanding, refusal: u8 }
     DataPacked {
         bytes: usize,
         packets: usize,
         next_packet_num: u64,
         entries_removed: usize,
         bytes_cut: usize,
+        outstanding: Outstanding,
         refusal: u8,
     }
     Reserved { number: u64, next_packet_num: u64, refusal: u8 }
@@ -138,7 +143,7 @@ extern "C" {
         lengths_len: usize,
         store: *mut u8,
         store_len: usize,
-    ) -> u8;
+    ) -> Accepted;
     pub fn bluefin_ordered_bytes_peek(
         o: OrderedBytes,
         marks: *const bool,
@@ -244,7 +249,31 @@ extern "C" {
         out_len: usize,
     ) -> AcksPacked;
 
+    pub fn bluefin_outstanding_new() -> Outstanding;
+    pub fn bluefin_outstanding_list_into(
+        o: Outstanding,
+        out: *mut u8,
+        out_len: usize,
+        numbers: *const u64,
+        numbers_len: usize,
+        lengths: *const u32,
+        lengths_len: usize,
+        packets: *const u8,
+        packets_len: usize,
+    ) -> Listed;
+    pub fn bluefin_outstanding_drop_answered(
+        o: Outstanding,
+        last: u64,
+        numbers: *mut u64,
+        numbers_len: usize,
+        lengths: *mut u32,
+        lengths_len: usize,
+        packets: *mut u8,
+        packets_len: usize,
+    ) -> Dropped;
+
     pub fn bluefin_consume_data_into(
+        o: Outstanding,
         bytes: *const u8,
         bytes_len: usize,
         lengths: *const u32,
@@ -254,6 +283,12 @@ extern "C" {
         dst_conn_id: u32,
         out: *mut u8,
         out_len: usize,
+        numbers: *mut u64,
+        numbers_len: usize,
+        payload_lengths: *mut u32,
+        payload_lengths_len: usize,
+        packets: *mut u8,
+        packets_len: usize,
     ) -> DataPacked;
     pub fn bluefin_payload_bytes_in_datagram(datagram: *const u8, datagram_len: usize) -> usize;
     pub fn bluefin_reserve_close_packet_num(next_packet_num: u64) -> Reserved;
@@ -316,6 +351,7 @@ mod tests {
         layout!(Parsed, 24, packets 0, cursor 8, refusal 16);
         layout!(OrderedBytes, 32, slot_width 0, front_slot 8, front_number 16, carry_len 24);
         layout!(Started, 40, state 0, refusal 32);
+        layout!(Accepted, 24, ack_base 0, ack_count 8, refusal 16);
         layout!(Consumed, 64, state 0, num_packets_consumed 32, base_packet_number 40, bytes_consumed 48, refusal 56);
         layout!(ConsumedBytes, 72, state 0, num_packets_consumed 32, base_packet_number 40, bytes_consumed 48,
             pieces 56, refusal 64);
@@ -329,7 +365,11 @@ mod tests {
         layout!(Popped, 48, ring 0, ack 24, refusal 40);
         layout!(Cleared, 32, ring 0, refusal 24);
         layout!(AcksPacked, 40, ring 0, acks 24, to_send 32, refusal 33);
-        layout!(DataPacked, 48, bytes 0, packets 8, next_packet_num 16, entries_removed 24, bytes_cut 32, refusal 40);
+        layout!(Outstanding, 8, count 0);
+        layout!(Listed, 16, packets 0, refusal 8);
+        layout!(Dropped, 16, outstanding 0, refusal 8);
+        layout!(DataPacked, 56, bytes 0, packets 8, next_packet_num 16, entries_removed 24, bytes_cut 32, outstanding 40,
+            refusal 48);
         layout!(Reserved, 24, number 0, next_packet_num 8, refusal 16);
         layout!(CloseRecord, 32, state_fin 0, pending_fin_ack_send 8, received_fin_ack_for 16, state 24, is_pending 25,
             is_received 26, peer_fin_observed 27);
