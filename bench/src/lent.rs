@@ -25,6 +25,18 @@ macro_rules! lent {
     };
 }
 
+/// The number of an accept's refusal, or 0. Its ack, which the published Rust does not have, is held against document 02 §3: with 5 that of
+/// the packet's number and count 1, else none.
+pub fn refusal_in(number: u64, told: sys::Accepted) -> u8 {
+    let ack = if told.refusal == 5 {
+        (number, 1)
+    } else {
+        (0, 0)
+    };
+    assert_eq!((told.ack_base, told.ack_count), ack, "the ack of {number}");
+    told.refusal
+}
+
 impl Lent {
     #[inline]
     pub fn new(width: usize, start: u64) -> Self {
@@ -71,7 +83,7 @@ impl Lent {
     }
 
     #[inline]
-    pub fn accept(&mut self, number: u64, payload: &[u8]) -> u8 {
+    pub fn accept(&mut self, number: u64, payload: &[u8]) -> sys::Accepted {
         let (slots, (marks, lengths, store)) = (self.marks.len(), lent!(self));
         let length = self.store.len();
         // SAFETY: as in `restart`.

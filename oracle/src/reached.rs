@@ -9,7 +9,7 @@ use bytes::Bytes;
 use std::collections::VecDeque;
 use std::sync::{atomic::AtomicBool, Arc};
 
-fn data(number: u64, payload: &'static [u8]) -> BluefinPacket {
+pub(crate) fn data(number: u64, payload: &'static [u8]) -> BluefinPacket {
     let mut header = BluefinHeader::new(
         1,
         2,

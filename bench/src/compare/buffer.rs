@@ -1,7 +1,7 @@
 //! The receive buffer at the Rust's 2,000 slots: packets accepted, and read by length and by packets.
 
 use crate::tally::Ours;
-use bench::lent::{Lent, SLOTS};
+use bench::lent::{refusal_in, Lent, SLOTS};
 use oracle::components::ordered_bytes::{self, payload, WIDTH};
 use oracle::record::{sum, Question};
 
@@ -35,7 +35,8 @@ impl Default for Buffer {
 
 impl Buffer {
     fn accept(&mut self, number: u64, length: u64) -> u64 {
-        self.lent.accept(number, &payload(number, length)).into()
+        let told = self.lent.accept(number, &payload(number, length));
+        refusal_in(number, told).into()
     }
 
     fn accept_run(&mut self, first: u64, count: u64, length: u64) -> Vec<u64> {

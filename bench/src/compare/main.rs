@@ -1,5 +1,5 @@
 //! The published Rust and this library, asked the same at random: answers and memory are compared. `bench/compare` runs it.
-//! The waiting time, which the Rust does not have, is held against its paper.
+//! The waiting time and the packets kept to be sent again, which the Rust does not have, are held against their paper.
 //!
 //! Arguments: how many commands in all, ten million if left out, and a seed.
 
@@ -9,6 +9,7 @@ mod close;
 mod datagrams;
 mod header;
 mod net;
+mod outstanding;
 mod packet;
 mod received;
 mod ring;
@@ -37,7 +38,7 @@ fn main() {
     let tallies = [
         plan.compare::<header::Header>(100),
         plan.compare::<packet::Packet>(160),
-        plan.compare::<window::Window>(200),
+        plan.compare::<window::Window>(180),
         plan.compare::<ring::Ring>(100),
         plan.compare::<buffer::Buffer>(200),
         plan.compare::<writer::Writer>(20),
@@ -47,6 +48,7 @@ fn main() {
         received::data(&plan, 50),
         received::acks(&plan, 60),
         rtt::steps(&plan, 20),
+        outstanding::runs(&plan, 20),
     ];
     let mut all = Tally::named("all");
     for tally in &tallies {

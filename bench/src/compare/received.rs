@@ -4,7 +4,7 @@
 use crate::datagrams::{by_many_calls, by_the_rust, push_packet, room_for, spoil, Told, ACK, DATA};
 use crate::tally::{Plan, Tally};
 use crate::window::{self, CELLS};
-use bench::lent::{Lent, SLOTS};
+use bench::lent::{refusal_in, Lent, SLOTS};
 use bluefin::sys;
 use oracle::components;
 use oracle::core::header::PacketType;
@@ -81,7 +81,8 @@ impl Receivers {
             answers: room.answers.clone(),
             ..room
         };
-        let accept = |number, _, payload: &[u8]| self.many.accept(number, payload);
+        let accept =
+            |number, _, payload: &[u8]| refusal_in(number, self.many.accept(number, payload));
         let many = by_many_calls(&datagram, room, DATA, accept);
         let parsed = self
             .once

@@ -333,7 +333,8 @@ fn repeats(table: &mut Table, held: usize) {
         }),
         goal: None,
     });
-    assert_eq!(ours.accept(packet.header.packet_number, &packet.payload), 7);
+    let again = ours.accept(packet.header.packet_number, &packet.payload);
+    assert_eq!(again.refusal, 7);
     assert!(ours == before);
 }
 

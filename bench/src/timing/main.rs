@@ -7,6 +7,7 @@
 mod buffer;
 mod headers;
 mod inputs;
+mod outstanding;
 mod packing;
 mod parsing;
 mod rtt;
@@ -34,6 +35,7 @@ fn main() {
     headers::rows(&mut table);
     parsing::rows(&mut table);
     packing::rows(&mut table);
+    outstanding::rows(&mut table);
     buffer::rows(&mut table);
     window::rows(&mut table);
     rtt::rows(&mut table);

@@ -1,7 +1,8 @@
 //! Data and acks packed.
 
-use crate::inputs::{bytes, START};
+use crate::inputs::{bytes, PAYLOAD, START};
 use crate::table::{timed, Row, Table};
+use bench::kept::{Kept, Queue};
 use bluefin::sys::{self, Ack};
 use bytes::Bytes;
 use oracle::linked::{consume_data_into, AckQueue};
@@ -18,13 +19,15 @@ const IDS: [u32; 2] = [1, 2];
 /// Datagrams packed in a round.
 const DATAGRAMS: usize = 4;
 
+/// The store is empty at each packing: its count goes by value.
 fn data(table: &mut Table, entries: usize, goal: Option<f64>) {
     let queued = bytes(DATA);
     let lengths = vec![(DATA / entries) as u32; entries];
     let mut theirs = [(); DATAGRAMS].map(|()| Vec::with_capacity(DATAGRAM));
-    let mut ours = vec![0; DATAGRAM];
+    let (mut ours, mut kept) = (vec![0; DATAGRAM], Kept::new());
+    let empty = kept.state;
     table.row(Row {
-        name: format!("pack {DATA} bytes of {entries} entries"),
+        name: format!("pack {DATA} bytes of {entries} entries, here with the store"),
         units: DATAGRAMS,
         theirs: Box::new(|| {
             let entries = || queued.chunks(DATA / entries).map(Bytes::copy_from_slice);
@@ -42,27 +45,35 @@ fn data(table: &mut Table, entries: usize, goal: Option<f64>) {
         ours: Box::new(|| {
             timed(|| {
                 for _ in 0..DATAGRAMS {
-                    let (queued, lengths) = (black_box(&queued), black_box(&lengths));
-                    // SAFETY: each pointer stands beside the length of its vector, and no two overlap.
-                    black_box(unsafe {
-                        sys::bluefin_consume_data_into(
-                            queued.as_ptr(),
-                            queued.len(),
-                            lengths.as_ptr(),
-                            lengths.len(),
-                            START,
-                            IDS[0],
-                            IDS[1],
-                            ours.as_mut_ptr(),
-                            ours.len(),
-                        )
+                    let queue = black_box(Queue {
+                        bytes: &queued,
+                        lengths: &lengths,
                     });
+                    kept.state = empty;
+                    black_box(kept.pack(queue, START, IDS, &mut ours));
                 }
             })
         }),
         goal,
     });
     assert!(theirs.iter().all(|out| *out == ours));
+    assert_eq!(kept.state.count, DATA / PAYLOAD);
+    assert!(kept.packets.starts_with(&ours));
+}
+
+/// What keeping cannot do without: one copy of the datagram.
+fn floor(table: &mut Table) {
+    let datagram = bytes(DATAGRAM);
+    let mut kept = Kept::new();
+    let copy = || {
+        timed(|| {
+            for _ in 0..DATAGRAMS {
+                let to = black_box(&mut kept.packets[..DATAGRAM]);
+                to.copy_from_slice(black_box(&datagram));
+            }
+        })
+    };
+    table.alone("the copy of 15,200 bytes alone", DATAGRAMS, Box::new(copy));
 }
 
 fn acks(table: &mut Table) {
@@ -115,8 +126,9 @@ fn acks(table: &mut Table) {
 
 pub fn rows(table: &mut Table) {
     table.group("pack a datagram");
-    for (entries, goal) in [(1, None), (10, Some(0.4)), (100, None), (1_000, None)] {
+    for (entries, goal) in [(1, None), (10, Some(0.55)), (100, None), (1_000, None)] {
         data(table, entries, goal);
     }
+    floor(table);
     acks(table);
 }

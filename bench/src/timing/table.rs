@@ -63,37 +63,53 @@ impl Table {
 
     /// A line that opens a group of rows.
     pub fn group(&mut self, name: &str) {
-        self.lines.push(format!("| **{name}** | | | | | |"));
-        eprintln!("{name}");
+        self.push(format!("| **{name}** | | | | | |"));
     }
 
-    /// Runs the candidates in turn, and keeps each one's best round.
-    pub fn row(&mut self, mut row: Row) {
+    /// Runs the candidates in turn, and answers each one's best round for a unit: theirs and ours.
+    fn best(&self, row: &mut Row) -> [f64; 2] {
         let (mut theirs, mut ours) = (Duration::MAX, Duration::MAX);
         let start = Instant::now();
         while start.elapsed() < self.long {
             theirs = theirs.min((row.theirs)());
             ours = ours.min((row.ours)());
         }
-        let [theirs, ours] = [theirs, ours].map(|best| nanoseconds(best, row.units));
-        let ratio = ours / theirs;
-        let (goal, met) = match row.goal {
-            None => (String::new(), ""),
-            Some(goal) if ratio <= goal => (format!("{goal:.1}"), "yes"),
-            Some(goal) => {
-                self.missed += 1;
-                (format!("{goal:.1}"), "no")
-            }
+        [theirs, ours].map(|best| nanoseconds(best, row.units))
+    }
+
+    /// The last three cells of a line: the ratio, its goal, and whether that is met.
+    fn judged(&mut self, ratio: f64, goal: Option<f64>) -> String {
+        let ratio_shown = shown_ratio(ratio);
+        let Some(goal) = goal else {
+            return format!("{ratio_shown} |  |  |");
         };
-        let line = format!(
-            "| {} | {} | {} | {} | {goal} | {met} |",
-            row.name,
-            shown(theirs),
-            shown(ours),
-            shown_ratio(ratio)
-        );
+        let is_met = ratio <= goal;
+        self.missed += usize::from(!is_met);
+        format!(
+            "{ratio_shown} | {goal:?} | {} |",
+            if is_met { "yes" } else { "no" }
+        )
+    }
+
+    fn push(&mut self, line: String) {
         eprintln!("{line}");
         self.lines.push(line);
+    }
+
+    pub fn row(&mut self, mut row: Row) {
+        let [theirs, ours] = self.best(&mut row);
+        let judged = self.judged(ours / theirs, row.goal);
+        let (name, theirs, ours) = (row.name, shown(theirs), shown(ours));
+        self.push(format!("| {name} | {theirs} | {ours} | {judged}"));
+    }
+
+    /// A row that the original has no counterpart of: `theirs` is its floor, which the ratio is of and which the next line names.
+    pub fn over_floor(&mut self, mut row: Row, floor_name: &str) {
+        let [floor, ours] = self.best(&mut row);
+        let judged = self.judged(ours / floor, row.goal);
+        let (name, ours) = (row.name, shown(ours));
+        self.push(format!("| {name} | | {ours} | {judged}"));
+        self.push(format!("| {floor_name} | | {} | | | |", shown(floor)));
     }
 
     /// A candidate alone: what a row is to be held against.
@@ -103,9 +119,8 @@ impl Table {
         while start.elapsed() < self.long {
             best = best.min(round());
         }
-        let line = format!("| {name} | | {} | | | |", shown(nanoseconds(best, units)));
-        eprintln!("{line}");
-        self.lines.push(line);
+        let best = shown(nanoseconds(best, units));
+        self.push(format!("| {name} | | {best} | | | |"));
     }
 
     pub fn print(&self) {
