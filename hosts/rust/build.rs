@@ -1,4 +1,4 @@
-//! Finds the archive: in the folder `BLUEFIN_ARCHIVE`, or in `target/staticlib` of the repository.
+//! Finds the archives: in the folder `BLUEFIN_ARCHIVE`, or in `target/staticlib` of the repository.
 
 use std::env;
 use std::path::PathBuf;
@@ -9,15 +9,17 @@ fn main() {
         Some(folder) => PathBuf::from(folder),
         None => here.join("../../target/staticlib"),
     };
-    let archive = folder.join("libbluefin_c.a");
     println!("cargo:rerun-if-env-changed=BLUEFIN_ARCHIVE");
-    println!("cargo:rerun-if-changed={}", archive.display());
-    if !archive.is_file() {
-        panic!(
-            "no archive at {}: run `rt staticlib bluefin_c` at the repository's root, or set BLUEFIN_ARCHIVE to its folder",
-            archive.display()
-        );
-    }
     println!("cargo:rustc-link-search=native={}", folder.display());
-    println!("cargo:rustc-link-lib=static=bluefin_c");
+    for name in ["bluefin_c", "bluefin_ring_c"] {
+        let archive = folder.join(format!("lib{name}.a"));
+        println!("cargo:rerun-if-changed={}", archive.display());
+        if !archive.is_file() {
+            panic!(
+                "no archive at {}: run `rt staticlib {name}` at the repository's root, or set BLUEFIN_ARCHIVE to its folder",
+                archive.display()
+            );
+        }
+        println!("cargo:rustc-link-lib=static={name}");
+    }
 }

@@ -29,7 +29,7 @@ use Rattle.ring_buffer.proofs.AckData.Laws as T′
 use Rattle.ring_buffer.proofs.RingBuffer.Laws as G′
 use Rattle.flat.specs.Ring.{flat}
 use Rattle.flat.proofs.Laws.{flat-leaves}
-use Rattle.bluefin_c.proofs.Lent.{Others, Walked, Handed, Chain, Answered, Flat, passed}
+use Rattle.bluefin_ring_c.proofs.Lent.{Others, Walked, Handed, Chain, Answered, Flat, passed}
 
 -- a local, a local read whole, and the type of a lent slice of ack records
 abbrev val : Ty → Local

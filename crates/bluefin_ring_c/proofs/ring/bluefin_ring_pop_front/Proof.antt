@@ -1,4 +1,4 @@
--- `bluefin_c::ring::bluefin_ring_pop_front` meets its contract: its MIR is `Shapes.antt`'s `bare` at `ring_buffer::pop_front` and `popped_of`. Assumes nothing.
+-- `bluefin_ring_c::ring::bluefin_ring_pop_front` meets its contract: its MIR is `Shapes.antt`'s `bare` at `ring_buffer::pop_front` and `popped_of`. Assumes nothing.
 use Rattle.ring_buffer.specs.Ring.{popFront}
 use Rattle.ring_buffer.specs.Says.{poppedSays, ringPopped}
 use Rattle.ring_buffer.proofs.Popped as X
@@ -12,11 +12,11 @@ use Rattle.flat.proofs.ring.Popped.Laws as Y′
 use Rattle.flat.proofs.ring.popped_of.Symbol as convert-def
 use Rattle.flat.proofs.ring.popped_of.Symbol.{name as #convert}
 use Rattle.flat.proofs.ring.popped_of.Met as convert-thm
-use Rattle.bluefin_c.proofs.Lent.{stands}
-use Rattle.bluefin_c.proofs.Shapes.{bare-call}
-use Rattle.bluefin_c.proofs.ring.bluefin_ring_pop_front.Key.{name as #self}
-use Rattle.bluefin_c.proofs.ring.bluefin_ring_pop_front.Statement as stated
-use Rattle.bluefin_c.proofs.ring.bluefin_ring_pop_front.Code as code
+use Rattle.bluefin_ring_c.proofs.Lent.{stands}
+use Rattle.bluefin_ring_c.proofs.Shapes.{bare-call}
+use Rattle.bluefin_ring_c.proofs.ring.bluefin_ring_pop_front.Key.{name as #self}
+use Rattle.bluefin_ring_c.proofs.ring.bluefin_ring_pop_front.Statement as stated
+use Rattle.bluefin_ring_c.proofs.ring.bluefin_ring_pop_front.Code as code
 
 pub bluefin-ring-pop-front-spec : {M : Type 1} → stated.statement M
 unfolding code.routine

@@ -1,4 +1,4 @@
--- `bluefin_c::ring::bluefin_ring_clear` meets its contract: its MIR is `Shapes.antt`'s `bare` at `ring_buffer::clear` and `cleared_of`. Assumes nothing.
+-- `bluefin_ring_c::ring::bluefin_ring_clear` meets its contract: its MIR is `Shapes.antt`'s `bare` at `ring_buffer::clear` and `cleared_of`. Assumes nothing.
 use Rattle.ring_buffer.specs.Ring.{clear}
 use Rattle.ring_buffer.specs.Says.{clearedSays, ringCleared}
 use Rattle.ring_buffer.proofs.Cleared as X
@@ -12,11 +12,11 @@ use Rattle.flat.proofs.ring.Cleared.Laws as Y′
 use Rattle.flat.proofs.ring.cleared_of.Symbol as convert-def
 use Rattle.flat.proofs.ring.cleared_of.Symbol.{name as #convert}
 use Rattle.flat.proofs.ring.cleared_of.Met as convert-thm
-use Rattle.bluefin_c.proofs.Lent.{stands}
-use Rattle.bluefin_c.proofs.Shapes.{bare-call}
-use Rattle.bluefin_c.proofs.ring.bluefin_ring_clear.Key.{name as #self}
-use Rattle.bluefin_c.proofs.ring.bluefin_ring_clear.Statement as stated
-use Rattle.bluefin_c.proofs.ring.bluefin_ring_clear.Code as code
+use Rattle.bluefin_ring_c.proofs.Lent.{stands}
+use Rattle.bluefin_ring_c.proofs.Shapes.{bare-call}
+use Rattle.bluefin_ring_c.proofs.ring.bluefin_ring_clear.Key.{name as #self}
+use Rattle.bluefin_ring_c.proofs.ring.bluefin_ring_clear.Statement as stated
+use Rattle.bluefin_ring_c.proofs.ring.bluefin_ring_clear.Code as code
 
 pub bluefin-ring-clear-spec : {M : Type 1} → stated.statement M
 unfolding code.routine

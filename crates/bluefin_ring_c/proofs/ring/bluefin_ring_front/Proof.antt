@@ -1,4 +1,4 @@
--- `bluefin_c::ring::bluefin_ring_front` meets its contract: its MIR is `Shapes.antt`'s `shared` at `ring_buffer::front` and `peeked_of`. Assumes nothing.
+-- `bluefin_ring_c::ring::bluefin_ring_front` meets its contract: its MIR is `Shapes.antt`'s `shared` at `ring_buffer::front` and `peeked_of`. Assumes nothing.
 use mathlib.Core.Path.{_≡_, ap, _∙_}
 use denote.Ref.{now}
 use Rattle.ring_buffer.specs.Ring.{front}
@@ -14,11 +14,11 @@ use Rattle.flat.proofs.ring.Popped.Laws as Y′
 use Rattle.flat.proofs.ring.peeked_of.Symbol as convert-def
 use Rattle.flat.proofs.ring.peeked_of.Symbol.{name as #convert}
 use Rattle.flat.proofs.ring.peeked_of.Met as convert-thm
-use Rattle.bluefin_c.proofs.Lent.{Handed, stands}
-use Rattle.bluefin_c.proofs.Shapes.{shared-others, shared, shared-walk}
-use Rattle.bluefin_c.proofs.ring.bluefin_ring_front.Key.{name as #self}
-use Rattle.bluefin_c.proofs.ring.bluefin_ring_front.Statement as stated
-use Rattle.bluefin_c.proofs.ring.bluefin_ring_front.Code as code
+use Rattle.bluefin_ring_c.proofs.Lent.{Handed, stands}
+use Rattle.bluefin_ring_c.proofs.Shapes.{shared-others, shared, shared-walk}
+use Rattle.bluefin_ring_c.proofs.ring.bluefin_ring_front.Key.{name as #self}
+use Rattle.bluefin_ring_c.proofs.ring.bluefin_ring_front.Statement as stated
+use Rattle.bluefin_ring_c.proofs.ring.bluefin_ring_front.Code as code
 
 -- the ring stays as it was
 abbrev handed : Handed

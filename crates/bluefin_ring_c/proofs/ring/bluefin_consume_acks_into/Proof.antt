@@ -1,4 +1,4 @@
--- `bluefin_c::ring::bluefin_consume_acks_into` meets its contract: its MIR is `Shapes.antt`'s `packing` at `writer::acks::consume_acks_into` and `acks_packed_of`. Assumes nothing.
+-- `bluefin_ring_c::ring::bluefin_consume_acks_into` meets its contract: its MIR is `Shapes.antt`'s `packing` at `writer::acks::consume_acks_into` and `acks_packed_of`. Assumes nothing.
 use mathlib.Core.Path.{_≡_}
 use Prim.Native.Nat.{ℕ}
 use mathlib.Core.List.{List}
@@ -19,11 +19,11 @@ use Rattle.flat.proofs.ring.acks_packed_of.Symbol as convert-def
 use Rattle.flat.proofs.ring.acks_packed_of.Symbol.{name as #convert}
 use Rattle.flat.proofs.ring.acks_packed_of.Met as convert-thm
 use Rattle.flat.proofs.Laws.{flat-acks}
-use Rattle.bluefin_c.proofs.Lent.{Handed, stands}
-use Rattle.bluefin_c.proofs.Shapes.{packing-others, packing, packing-walk}
-use Rattle.bluefin_c.proofs.ring.bluefin_consume_acks_into.Key.{name as #self}
-use Rattle.bluefin_c.proofs.ring.bluefin_consume_acks_into.Statement as stated
-use Rattle.bluefin_c.proofs.ring.bluefin_consume_acks_into.Code as code
+use Rattle.bluefin_ring_c.proofs.Lent.{Handed, stands}
+use Rattle.bluefin_ring_c.proofs.Shapes.{packing-others, packing, packing-walk}
+use Rattle.bluefin_ring_c.proofs.ring.bluefin_consume_acks_into.Key.{name as #self}
+use Rattle.bluefin_ring_c.proofs.ring.bluefin_consume_acks_into.Statement as stated
+use Rattle.bluefin_ring_c.proofs.ring.bluefin_consume_acks_into.Code as code
 
 -- the call's arguments, and what it comes to
 abbrev Comes : RingBuffer × (RefT (List AckData) × (ℕ × (ℕ × (ℕ × (RefT (List ℕ) × Unit {0}))))) → Outcome
