@@ -131,3 +131,14 @@ place-from n (x ∷ xs) h = by (place-from n xs) (ltb x n) refl h
         → cond t (suc (place n xs)) zero < length (x ∷ xs) → n ≤ getD (x ∷ xs) (cond t (suc (place n xs)) zero) 0
     by ih true t h = ih (le-of-suc-le-suc h)
     by ih false t h = ltb-false x n t
+
+-- a window holds at most as many numbers as it spans
+pub few : (w : SlidingWindow) (cells : List ℕ) → wellFormed w cells ≡ true → w .count ≤ windowSize
+few w cells h = by (w .count) refl
+  where
+    by : (count : ℕ) → w .count ≡ count → count ≤ windowSize
+    by zero q = omega arith
+    by (suc i) q =
+        let wf = well-formed w cells h in
+        let last = rises-at (bound w) (expected w) (w .count) i cells (wf .rises) (omega arith) (wf .fits) in
+        omega arith

@@ -1,6 +1,7 @@
 // utils/window.rs: the numbers that were acked and are not yet consumed, rising, in the first cells of a lent slice
 // (document 01, "From acks to the window").
-// Proved: each call says what the definition says, and leaves the window and the cells as it does, for every window and every content of the cells.
+// Proved: each call says what the definition says, and leaves the window and the cells as it does, for every window and every content of the cells;
+// and after the test of 12 an insert makes at most two passes for each number held and two for each in its range (document 02 §4).
 use lists::LARGEST;
 use refusal::Refusal;
 ghost use mathlib.Core.Path.{_≡_};
@@ -14,6 +15,7 @@ ghost use Rattle.lists.specs.Rising.{rising};
 ghost use Rattle.window.specs.Window.{expected, window, held, holdable, wellFormed, place, numbers, beforeHeld, runLength};
 ghost use Rattle.window.specs.Window.{storeRun, insertPacketNumber, insertRange, consume};
 ghost use Rattle.window.specs.Window.{insertedSays, windowAfterInsert, rangeInsertedSays, windowAfterRange, consumedSays, windowAfterConsume};
+ghost use Rattle.window.specs.Passes.{passesAllowed, placePasses, firstHeldPasses, passesMade};
 
 // How far from the smallest expected number on a number may be held.
 pub const MAX_SLIDING_WINDOW_SIZE: u64 = 40000;
@@ -134,13 +136,19 @@ fn is_rising_from(cells: &[u64], count: usize, from: usize) -> bool
     true
 }
 
+// The four loops of an insert. Each turn, before anything else, pays 1 out of the budget of passes lent to it (document 02 §4). Nothing tests
+// what is left: that 1 can be taken off is proved at each of these lines, and so the budget never runs out.
+
 // Where n stands, or would stand. From the back, as acks come mostly in order.
-fn find_place(w: SlidingWindow, cells: &[u64], n: u64) -> usize
+fn find_place(w: SlidingWindow, cells: &[u64], n: u64, budget: &mut usize) -> usize
     requires { ⌜ (wellFormed w (now cells) ≡ true) × (w .count ≤ length (now cells)) ⌝ }
+    requires { ⌜ w .count ≤ now budget ⌝ }
     ensures { λ r. ⌜ (r ≡ place n (held w (now (cells .entry)))) × (r ≤ w .count) ⌝ }
+    ensures { λ r. ⌜ now (budget .entry) ≡ now (budget .exit) + placePasses (w .count) r ⌝ }
 {
     let mut i = w.count;
     while i > 0 {
+        *budget -= 1;
         if cells[i - 1] < n {
             return i;
         }
@@ -151,13 +159,23 @@ fn find_place(w: SlidingWindow, cells: &[u64], n: u64) -> usize
 
 // How many of the range's numbers, from base on, stand before the first that is held; `at` is base's place.
 // As the numbers rise, the first held one can stand nowhere but there.
-fn first_held(w: SlidingWindow, cells: &[u64], at: usize, base: u64, range: usize) -> usize
+fn first_held(
+    w: SlidingWindow,
+    cells: &[u64],
+    at: usize,
+    base: u64,
+    range: usize,
+    budget: &mut usize,
+) -> usize
     requires { ⌜ (wellFormed w (now cells) ≡ true) × (w .count ≤ length (now cells)) × (at ≡ place base (held w (now cells))) × (0 < range) × (base + range ≤ largest) ⌝ }
+    requires { ⌜ range ≤ now budget ⌝ }
     ensures { λ r. ⌜ (r ≡ beforeHeld base range (held w (now (cells .entry)))) × (r ≤ range) ⌝ }
+    ensures { λ r. ⌜ now (budget .entry) ≡ now (budget .exit) + firstHeldPasses range r ⌝ }
 {
     let count = w.count;
     let mut i = 0;
     loop {
+        *budget -= 1;
         if at < count {
             if cells[at] == base + i as u64 {
                 break i;
@@ -171,46 +189,60 @@ fn first_held(w: SlidingWindow, cells: &[u64], at: usize, base: u64, range: usiz
 }
 
 // Moves the cells from `from` to count up by k.
-fn shift_up(cells: &mut [u64], from: usize, count: usize, k: usize)
+fn shift_up(cells: &mut [u64], from: usize, count: usize, k: usize, budget: &mut usize)
     requires { ⌜ (from ≤ count) × (count + k ≤ length (now cells)) ⌝ }
+    requires { ⌜ count - from ≤ now budget ⌝ }
     ensures { λ _. ⌜ now (cells .exit) ≡ paste (now (cells .entry)) (from + k) (drop from (now (cells .entry))) (count - from) ⌝ }
+    ensures { λ _. ⌜ now (budget .entry) ≡ now (budget .exit) + (count - from) ⌝ }
 {
     let mut i = count;
     while i > from {
+        *budget -= 1;
         i -= 1;
         cells[i + k] = cells[i];
     }
 }
 
 // Writes base, base + 1 and so on, k numbers, from the cell `at` on.
-fn fill(cells: &mut [u64], at: usize, base: u64, k: usize)
+fn fill(cells: &mut [u64], at: usize, base: u64, k: usize, budget: &mut usize)
     requires { ⌜ (at + k ≤ length (now cells)) × (base + k ≤ largest) ⌝ }
+    requires { ⌜ k ≤ now budget ⌝ }
     ensures { λ _. ⌜ now (cells .exit) ≡ paste (now (cells .entry)) at (numbers base k) k ⌝ }
+    ensures { λ _. ⌜ now (budget .entry) ≡ now (budget .exit) + k ⌝ }
 {
     let mut i = 0;
     while i < k {
+        *budget -= 1;
         cells[at + i] = base + i as u64;
         i += 1;
     }
 }
 
 // Stores those of the run's numbers, from base on, that stand before the first already held. All loops of an insert are here:
-// the place, the first held, the move and the writing.
-fn store_run(w: SlidingWindow, cells: &mut [u64], base: u64, range: usize) -> RangeInserted
+// the place, the first held, the move and the writing, and they pay out of one budget.
+fn store_run(
+    w: SlidingWindow,
+    cells: &mut [u64],
+    base: u64,
+    range: usize,
+    budget: &mut usize,
+) -> RangeInserted
     requires { ⌜ (wellFormed w (now cells) ≡ true) × (0 < range) × (base + range ≤ largest) ⌝ }
+    requires { ⌜ now budget ≡ passesAllowed (w .count) range ⌝ }
     ensures { λ r. ⌜ (rangeInsertedSays r, windowAfterRange w r, now (cells .exit)) ≡ storeRun w (now (cells .entry)) base range ⌝ }
+    ensures { λ _. ⌜ now (budget .entry) ≡ now (budget .exit) + passesMade w (now (cells .entry)) base range ⌝ }
 {
     let held = w.count;
-    let at = find_place(w, cells, base);
-    let k = first_held(w, cells, at, base, range);
+    let at = find_place(w, cells, base, budget);
+    let k = first_held(w, cells, at, base, range, budget);
     if k == 0 {
         return RangeInserted::AlreadyHeld(w);
     }
     if k > cells.len() - held {
         return RangeInserted::Refused(Refusal::BufferShort);
     }
-    shift_up(cells, at, held, k);
-    fill(cells, at, base, k);
+    shift_up(cells, at, held, k, budget);
+    fill(cells, at, base, k, budget);
     let grown = SlidingWindow {
         smallest_expected: w.smallest_expected,
         count: held + k,
@@ -288,7 +320,9 @@ pub fn insert_packet_number_unchecked(w: SlidingWindow, cells: &mut [u64], n: u6
     if n == LARGEST {
         return Inserted::Refused(Refusal::Exhausted);
     }
-    let stored = store_run(w, cells, n, 1);
+    // What document 02 §4 allows a range of one.
+    let mut budget = 2 * w.count + 2;
+    let stored = store_run(w, cells, n, 1, &mut budget);
     match stored {
         RangeInserted::Stored(grown) => Inserted::Stored(grown),
         RangeInserted::AlreadyHeld(same) => Inserted::Refused(Refusal::AlreadyHeld),
@@ -330,7 +364,10 @@ pub fn insert_range_unchecked(
     if base + many - 1 - expected >= MAX_SLIDING_WINDOW_SIZE {
         return RangeInserted::Refused(Refusal::Beyond);
     }
-    store_run(w, cells, base, count as usize)
+    let range = count as usize;
+    // "at most two passes for each number held and two for each in the range" (document 02 §4)
+    let mut budget = 2 * w.count + 2 * range;
+    store_run(w, cells, base, range, &mut budget)
 }
 
 // utils/window.rs, SlidingWindow::consume.

@@ -1,4 +1,4 @@
--- `fill`: before turn i the cells are as they came, but the first i numbers from `at` on.
+-- `fill`: before turn i the cells are as they came, but the first i numbers from `at` on, each of which was paid.
 -- Assumes nothing.
 use Prim.Native.Nat.{ℕ, _+_, _-_, _≤_}
 use mathlib.Core.Path.{_≡_, refl, ap, _∙_}
@@ -13,29 +13,30 @@ use Rattle.window.proofs.fill.Statement.{statement}
 use Rattle.window.proofs.fill.Tie as tie
 
 abbrev Inv-loop : tie.InvT-loop
-Inv-loop cells₀ at base k i₀ cells i = (i ≤ k) × (length cells ≡ length cells₀) × (cells ≡ paste cells₀ at (numbers base k) i)
+Inv-loop cells₀ at base k budget₀ i₀ cells budget i =
+    (i ≤ k) × (length cells ≡ length cells₀) × (cells ≡ paste cells₀ at (numbers base k) i) × (budget₀ ≡ budget + i)
 
 abbrev μ-loop : tie.MeasureT-loop
-μ-loop cells₀ at base k i₀ cells i = k - i
+μ-loop cells₀ at base k budget₀ i₀ cells budget i = k - i
 
 loop-holds : tie.Need-loop-holds Inv-loop μ-loop
-loop-holds c = let a = c .args in (omega arith, refl, paste-zero (a .cells .now) (a .at) (numbers (a .base) (a .k)))
+loop-holds c = let a = c .args in (omega arith, refl, paste-zero (a .cells .now) (a .at) (numbers (a .base) (a .k)), omega arith)
 
 loop-again : tie.Need-loop-again Inv-loop μ-loop
 loop-again c =
-    let l = c .before in
+    let l = c .before .before in
     let a = l .before .args in
     let i = l .loop .i in
     let told = getD-numbers (a .base) (a .k) i (omega arith) in
     let turn = write-at (a .cells .now) (numbers (a .base) (a .k)) (a .at) (a .k) i (a .base + i) (length-numbers (a .base) (a .k)) told (omega arith) (omega arith) in
-    (omega arith, simp length-set (omega arith), ap (λ (x : List ℕ). set x (a .at + i) (a .base + i)) (l .loop .inv .2) ∙ turn)
+    (omega arith, simp length-set (omega arith), ap (λ (x : List ℕ). set x (a .at + i) (a .base + i)) (l .loop .inv .2) ∙ turn, omega arith)
 
 returns : tie.Need-returns Inv-loop μ-loop
 returns c =
     let l = c .before in
     let a = l .before .args in
     let q : l .loop .i ≡ a .k = omega arith in
-    rw q at (l .loop .inv .2)
+    (rw q at (l .loop .inv .2), omega arith)
 
 pub fill-spec : {M : Type 1} → statement M
 fill-spec =
@@ -44,6 +45,7 @@ fill-spec =
     Inv-loop
     μ-loop
     loop-holds
+    (λ c. search needs)
     (λ c. search needs)
     (λ c. search needs)
     (λ c. search needs)

@@ -6,7 +6,7 @@ use borrow.Author.Needs.{needs}
 use borrow.Author.Tests.{lt-ltb, le-ltb, le-leb, lt-leb}
 use Rattle.lists.specs.Numbers.{largest}
 use Rattle.window.specs.Window.{insertPacketNumber, storeRun}
-use Rattle.window.proofs.Rises.{well-formed}
+use Rattle.window.proofs.Rises.{well-formed, few}
 use Rattle.window.proofs.Loops.{one-is, one-held}
 use Rattle.window.proofs.insert_packet_number_unchecked.Statement.{statement}
 use Rattle.window.proofs.insert_packet_number_unchecked.Tie as tie
@@ -37,25 +37,34 @@ returns-3 c =
     let s = e .before .before .before in
     simp (s .pre, le-ltb _ _ (e .before .if1 .left), lt-leb _ _ (e .if2 .left), le-leb largest (s .args .n) (omega arith))
 
+mul-budget : tie.Need-mul-budget
+mul-budget c = let m = few _ _ (start (c .before) .pre) in omega arith
+
+add-budget : tie.Need-add-budget
+add-budget c = let m = few _ _ (start (c .before) .pre) in omega arith
+
 abbrev ran : tie.After-slice-known2 → tie.After-store-run
 ran c = c .before .before
+
+abbrev tested : tie.After-store-run → tie.Else3
+tested c = c .before .before .before .before
 
 returns-4 : tie.Need-returns-4
 returns-4 c =
     let s = ran (c .before .before .before) in
-    rw (past (s .before .before)) (simp (c .before .stored .given .1) at (s .store-run .ensures))
+    rw (past (tested s)) (simp (c .before .stored .given .1) at (s .store-run .ensures .0))
 
 returns-5 : tie.Need-returns-5
 returns-5 c =
     let s = ran (c .before .before .before) in
-    let e = s .before .before in
+    let e = tested s in
     let a = start e .args in
-    rw (past e) (one-held (a .w) _ (a .cells .now) _ (a .n) (well-formed _ _ (start e .pre) .fits) (simp (c .before .stored2 .given .1) at (s .store-run .ensures)))
+    rw (past e) (one-held (a .w) _ (a .cells .now) _ (a .n) (well-formed _ _ (start e .pre) .fits) (simp (c .before .stored2 .given .1) at (s .store-run .ensures .0)))
 
 returns-6 : tie.Need-returns-6
 returns-6 c =
     let s = ran (c .before .before .before) in
-    rw (past (s .before .before)) (simp (c .before .stored3 .given .1) at (s .store-run .ensures))
+    rw (past (tested s)) (simp (c .before .stored3 .given .1) at (s .store-run .ensures .0))
 
 pub insert-packet-number-unchecked-spec : {M : Type 1} → statement M
 insert-packet-number-unchecked-spec =
@@ -64,6 +73,8 @@ insert-packet-number-unchecked-spec =
     returns
     returns-2
     returns-3
+    mul-budget
+    add-budget
     (λ c κs. search needs)
     (λ c. search needs)
     (λ c. search needs)

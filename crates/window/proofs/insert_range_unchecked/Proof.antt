@@ -7,6 +7,7 @@ use borrow.Author.Needs.{needs}
 use borrow.Author.Tests.{lt-ltb, le-ltb, le-leb, lt-leb, eq-eqb, ne-eqb}
 use Rattle.lists.specs.Numbers.{largest}
 use Rattle.window.specs.Window.{insertRange, storeRun}
+use Rattle.window.proofs.Rises.{few}
 use Rattle.window.proofs.insert_range_unchecked.Statement.{statement}
 use Rattle.window.proofs.insert_range_unchecked.Tie as tie
 
@@ -45,10 +46,19 @@ returns-4 c =
     let a = start e .args in
     simp (start e .pre, ne-eqb _ _ (e .before .before .if1 .left), le-ltb _ _ (e .before .if2 .left), le-ltb largest (a .base + a .count) (omega arith), le-leb _ _ (c .if4 .taken))
 
+mul-budget : tie.Need-mul-budget
+mul-budget c = let m = few _ _ (start (c .before .before) .pre) in omega arith
+
+add-budget : tie.Need-add-budget
+add-budget c = let m = few _ _ (start (c .before .before) .pre) in omega arith
+
+store-run-requires : tie.Need-store-run-requires
+store-run-requires c κs = ((start (c .before .before .before .before) .pre, omega arith, omega arith), omega arith)
+
 returns-5 : tie.Need-returns-5
 returns-5 c =
     let s = c .before .before in
-    s .store-run .ensures ∙ sym (past (s .before .before))
+    s .store-run .ensures .0 ∙ sym (past (s .before .before .before .before))
 
 pub insert-range-unchecked-spec : {M : Type 1} → statement M
 insert-range-unchecked-spec =
@@ -62,6 +72,9 @@ insert-range-unchecked-spec =
     (λ c. search needs)
     (λ c. search needs)
     returns-4
-    (λ c κs. search needs)
+    mul-budget
+    (λ c. search needs)
+    add-budget
+    store-run-requires
     (λ c. search needs)
     returns-5)
