@@ -5,7 +5,7 @@ use Rattle.samples.proofs.PacketRows.{packet-rows, parser-rows}
 use Rattle.samples.proofs.WriterRows.{packing-rows, payload-bytes-rows, reserve-rows}
 use Rattle.samples.proofs.OutstandingRows.{places-rows, store-rows, list-rows, drop-rows}
 use Rattle.samples.proofs.RingRows.{ring-rows, ack-rows}
-use Rattle.samples.proofs.WindowRows.{insert-rows, range-rows, window-consume-rows}
+use Rattle.samples.proofs.WindowRows.{insert-rows, range-rows, passes-rows, window-consume-rows}
 use Rattle.samples.proofs.BufferRows.{new-rows, start-rows, accept-rows, peek-rows, consume-rows, consume-bytes-rows}
 use Rattle.samples.proofs.CloseRows.{close-rows, fin-rows, hello-rows}
 use Rattle.samples.proofs.RttRows.{sample-rows, wait-rows, exact-rows}
@@ -26,6 +26,7 @@ boundaries = record {
   ring = ring-rows;
   insert = insert-rows;
   insert-range = range-rows;
+  passes = passes-rows;
   window-consume = window-consume-rows;
   new = new-rows;
   set-start = start-rows;

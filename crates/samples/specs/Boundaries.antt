@@ -7,7 +7,7 @@ use Rattle.samples.specs.WriterRows.{PackingRows, PayloadBytesRows, Rese
 use Rattle.samples.specs.OutstandingRows.{PlacesRows, StoreRows, ListRows, DropRows}
 use Rattle.samples.specs.RingRows.{RingRows}
 use Rattle.samples.specs.AckRows.{AckRows}
-use Rattle.samples.specs.WindowRows.{InsertRows, RangeRows, WindowConsumeRows}
+use Rattle.samples.specs.WindowRows.{InsertRows, RangeRows, PassesRows, WindowConsumeRows}
 use Rattle.samples.specs.BufferRows.{NewRows, StartRows, AcceptRows, PeekRows}
 use Rattle.samples.specs.ReadRows.{ConsumeRows, ConsumeBytesRows}
 use Rattle.samples.specs.CloseRows.{CloseRows, FinRows, HelloRows}
@@ -28,9 +28,10 @@ pub record Boundaries : Type 0 where
   pub payload-bytes : PayloadBytesRows
   pub acks : AckRows
   pub ring : RingRows
-  -- the window: `insert`, `insert_range`, `consume`
+  -- the window: `insert`, `insert_range`, the passes of their loops, `consume`
   pub insert : InsertRows
   pub insert-range : RangeRows
+  pub passes : PassesRows
   pub window-consume : WindowConsumeRows
   -- the receive buffer: `new`, `set_start_packet_number`, accepting, `peek`, `consume`, `consume_bytes`
   pub new : NewRows

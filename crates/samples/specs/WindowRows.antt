@@ -1,4 +1,4 @@
--- Boundaries of the window of acknowledged numbers: document 01, "From acks to the window".
+-- Boundaries of the window of acknowledged numbers: document 01, "From acks to the window", and document 02 §4.
 use Prim.Native.Nat.{ℕ, _-_, _^_}
 use mathlib.Core.Path.{_≡_}
 use mathlib.Core.Option.{none, some}
@@ -6,6 +6,7 @@ use mathlib.Core.List.{List, [], _∷_, map}
 use Rattle.refusal.specs.Said.{Said, answers, refuses}
 use Rattle.window.specs.declared.SlidingWindow.{SlidingWindow}
 use Rattle.window.specs.Window.{Outcome, insertPacketNumber, insertRange, consume}
+use Rattle.window.specs.Passes.{passesAllowed, passesMade}
 use Rattle.samples.specs.Inputs.{lent}
 
 -- a window by the smallest expected number and how many numbers it holds; the cells after those are not its own
@@ -122,6 +123,23 @@ pub record RangeRows : Type 0 where
   pub count-0-12 : Refuses12 (λ w cells. insertRange w cells 10 0)
   pub below-12 : Refuses12 (λ w cells. insertRange w cells 9 1)
   pub exhausted-12 : Refuses12 (λ w cells. insertRange w cells (2 ^ 64 - 1) 5)
+
+-- the passes that the loops of an insert make, after 12's check
+pub record PassesRows : Type 0 where
+  -- "at most two passes for each number held and two for each in the range"
+  pub allowed-for-one : passesAllowed 0 1 ≡ 2
+  pub allowed : passesAllowed 3 5 ≡ 16
+  -- .. and no fewer: all of them are made where nothing is held, and where the range stands before all that is held
+  pub into-empty : passesMade (window 10 0) (99 ∷ []) 10 1 ≡ 2
+  pub before-all : passesMade (window 10 2) (14 ∷ 15 ∷ 99 ∷ 99 ∷ []) 11 2 ≡ 8
+  -- behind all that is held the last number alone is looked at, and none is moved
+  pub behind-all : passesMade (window 10 2) (10 ∷ 11 ∷ 99 ∷ 99 ∷ []) 12 2 ≡ 5
+  pub in-between : passesMade (window 10 2) (10 ∷ 20 ∷ 99 ∷ 99 ∷ 99 ∷ []) 12 3 ≡ 9
+  -- the first number already held ends the search, and those before it are written
+  pub stops-at-first-held : passesMade (window 10 1) (12 ∷ 99 ∷ 99 ∷ []) 10 5 ≡ 7
+  -- nothing is moved or written where the first number is held, or the cells are too few
+  pub first-held : passesMade (window 10 2) (10 ∷ 14 ∷ 99 ∷ 99 ∷ 99 ∷ []) 10 3 ≡ 3
+  pub one-cell-short : passesMade (window 10 1) (14 ∷ 99 ∷ []) 10 2 ≡ 3
 
 pub record WindowConsumeRows : Type 0 where
   -- "none if the smallest expected is absent"
