@@ -1,7 +1,7 @@
 // utils/window.rs: the numbers that were acked and are not yet consumed, rising, in the first cells of a lent slice
 // (document 01, "From acks to the window").
 // Proved: each call says what the definition says, and leaves the window and the cells as it does, for every window and every content of the cells;
-// and after the test of 12 an insert makes at most two passes for each number held and two for each in its range (document 02 §4).
+// and after the test of 12 the loops of an insert pay for every pass out of two for each number held and two for each in its range (document 02 §4).
 use lists::LARGEST;
 use refusal::Refusal;
 ghost use mathlib.Core.Path.{_≡_};
