@@ -1,6 +1,8 @@
 // The close record of a connection, changed where it is lent: net/close_handler.rs; document 01, "Closing".
 // Each event is a transition by value, `after_..`; the Rust's call of that event is a thin function over it, and changes the record where it is lent.
 // Proved: what each call answers and the record that it leaves are the definition's. No call refuses.
+#![tactic(auto)]
+
 ghost use Rattle.std.specs.Prelude.{◌≡◌};
 ghost use Rattle.close_handler.specs.Close.{fresh, after_fin, after_fin_ack, after_local_fin, after_closed, after_take, number_in, state_says, state_of, owed, recorded, taken};
 

@@ -1,5 +1,7 @@
 // Prints each datagram whose file an argument names, after the name, as the program `datagram` prints the one on its standard input.
 // The files under data/ get every answer that a datagram can get there, at both ends of its length (data/README.md).
+#![tactic(auto)]
+
 use libc::STDOUT_FILENO;
 
 fn print_case(i: usize) {

@@ -1,5 +1,7 @@
 // The header of 20 bytes (core/header.rs), and the table of the sixteen packet types.
 // Proved: every call says and leaves what its definition in specs/Header.antt does, and the table keeps its rule at each row.
+#![tactic(auto)]
+
 ghost use Rattle.std.specs.Prelude.{◌≡◌, ℕ, ◌+◌, ◌<◌, ◌≤◌, List, length};
 ghost use Rattle.std.proofs.Math.Seq.{paste};
 ghost use Rattle.refusal.specs.Said.{Said};

@@ -1,6 +1,8 @@
 // A datagram as text on standard output: a line for each of its packets, or its refusal.
 // Document 01, "A program reads one datagram from standard input and prints per packet, in decimal, type, field, number, payload length;
 // or only `refused R at C`". Proved: each header that is printed is read within the datagram, with no test beside the parser's own.
+#![tactic(auto)]
+
 ghost use Rattle.std.specs.Prelude.{◌+◌, ◌≤◌, length};
 ghost use Rattle.packet.specs.Datagram.{Listed};
 

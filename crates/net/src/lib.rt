@@ -1,6 +1,8 @@
 // What net/mod.rs gives the link: its sizes, the tests of handshake packets, the packet without payload; and the headers that close a connection.
 // Carries the end of document 01's "Closing". A packet is a header beside its payload, so that the tests take a header, and the empty packet is one.
 // Proved: each call's answer, and what it leaves in the lent buffer, are the definition's of specs/; a FIN is read back as it was written (proofs/Laws.antt).
+#![tactic(auto)]
+
 ghost use Rattle.std.specs.Prelude.{◌≡◌, List, ℕ};
 ghost use Rattle.refusal.specs.Said.{Said};
 ghost use Rattle.header.specs.Types.{type_number};

@@ -1,6 +1,8 @@
 // The receive buffer: packets held by number until the reader takes their bytes in order.
 // Ports net/ordered_bytes.rs; document 01, "From packets to the reader".
 // Proved: what each call answers, the state and every lent list that it leaves are the definition's in specs/Calls.antt, on every input.
+#![tactic(auto)]
+
 ghost use Rattle.std.specs.Prelude.{◌≡◌, true};
 ghost use Rattle.ordered_bytes.specs.Buffer.{buffer_of, well_formed};
 ghost use Rattle.ordered_bytes.specs.Calls.{creation_of, creating, started_says, starting, acceptance_of, accepting, peeked_says, peeking};

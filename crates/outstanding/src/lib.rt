@@ -1,5 +1,7 @@
 // The packets that were packed and are not yet answered, kept to be sent again: document 02, §3. The Rust keeps none.
 // Proved: what each call answers, and what it leaves of the state and of every lent list, is the definition's, on every input.
+#![tactic(auto)]
+
 ghost use Rattle.std.specs.Prelude.{◌≡◌, true, ◌&&◌, List, ℕ, ◌+◌, ◌-◌, ◌≤◌, length, take, drop};
 ghost use Rattle.std.proofs.Math.Seq.{paste};
 ghost use Rattle.refusal.specs.Said.{Said};

@@ -1,6 +1,8 @@
 // A packet is a header beside its payload, and a datagram is packets end to end.
 // Ports core/packet.rs; document 01, "From a datagram to packets" and "The header, last leaf"; document 02 §1.
 // Proved: what each call says and leaves in lent memory is the definition's, on every input; written packets are read back (proofs/Trip.antt).
+#![tactic(auto)]
+
 ghost use Rattle.std.specs.Prelude.{◌≡◌, List, ℕ, ◌+◌, ◌≤◌, length};
 ghost use Rattle.refusal.specs.Said.{Said};
 ghost use Rattle.header.specs.Header.{header_read_says};

@@ -1,6 +1,8 @@
 // One call for a whole datagram: parse it, and accept its data packets, or enter its acks, with one test of refusal 12 for all of them.
 // Document 01's arrival by one call; it has no call of its own there, and says nothing that the calls one after another do not say.
 // Proved: answer, state and every lent list are the definition's in specs/Datagram.antt, on every input.
+#![tactic(auto)]
+
 ghost use Rattle.std.specs.Prelude.{◌≡◌};
 ghost use Rattle.packet.specs.Datagram.{parsed_says};
 ghost use Rattle.ordered_bytes.specs.Buffer.{buffer_of};

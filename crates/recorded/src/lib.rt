@@ -1,5 +1,7 @@
 // Recorded questions and answers: words of 8 bytes on standard input, the highest byte first, and lines of decimal numbers on standard output.
 // oracle/ writes the records. Proved: reading stays within the buffer that is lent, whatever the input holds, and every loop ends.
+#![tactic(auto)]
+
 ghost use Rattle.io.specs.Counts.{IsPrefixLen};
 
 use libc::{STDIN_FILENO, STDOUT_FILENO};

@@ -1,4 +1,6 @@
 // A header in a record: eight numbers, in the order version, type, field, encrypted, mask, source, destination, packet number.
+#![tactic(auto)]
+
 use header::{BluefinHeader, BluefinSecurityFields, PacketType};
 
 // The type of a word: the recorded ones are 0 to 6.

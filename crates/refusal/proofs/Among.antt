@@ -1,7 +1,7 @@
 -- Which numbers a call refuses with, read off its definition: those of its checks, and of what is left where none of them holds.
 -- So no call needs a proof of its own that it never answers some number: that the list lacks it computes. Assumes nothing.
 use Prim.Native.Nat.{ℕ}
-use mathlib.Core.Path.{◌≡◌, sym, ◌∙◌}
+use mathlib.Core.Path.{◌≡◌, sym, subst, ◌∙◌}
 use mathlib.Core.Bool.{Bool, true, false, ◌&&◌, ◌||◌, cond, true≢false, and-eq-true_iff}
 use mathlib.Core.List.{List, [], ◌∷◌}
 use mathlib.Core.Logic.{inl, inr}
@@ -18,7 +18,10 @@ pub data Among (ns : List ℕ) (n : ℕ) : Type 0 where
   computes : one_of n (0 ∷ ns) ≡ true → Among ns n
 
 pub never : {ns : List ℕ} {n : ℕ} (r : ℕ) → one_of r (0 ∷ ns) ≡ false → Among ns n → n ≡ r → ⊥
-never r lacks (computes h) e = true≢false (sym (rw e at h) ∙ lacks)
+never {ns} r lacks (computes h) e = true≢false (sym (listed_at e h) ∙ lacks)
+  where
+    listed_at : {n : ℕ} → n ≡ r → one_of n (0 ∷ ns) ≡ true → one_of r (0 ∷ ns) ≡ true
+    listed_at e h = subst (λ m. one_of m (0 ∷ ns) ≡ true) e h
 
 -- the numbers of the checks, as `number` gives them, are among these
 abbrev pub listed : List ℕ → (ℕ → ℕ) → List (Bool × ℕ) → Bool
@@ -42,5 +45,5 @@ module _ {A : Type 0} (says : A → ℕ) (refused : ℕ → A) where
 -- the same of the number that is known to be refused with
 pub failed_among : {ns : List ℕ} (cs : List (Bool × ℕ)) {r : ℕ} → listed ns (λ n. n) cs ≡ true → Failed cs r → Among ns r
 failed_among [] l f = absurd f
-failed_among {ns} (c ∷ cs) l (inl (e, q)) = computes (rw q at ((and-eq-true_iff (one_of c.1 (0 ∷ ns)) (listed ns (λ n. n) cs)).0 l).0)
+failed_among {ns} (c ∷ cs) l (inl (e, q)) = computes (subst (λ m. one_of m (0 ∷ ns) ≡ true) q ((and-eq-true_iff (one_of c.1 (0 ∷ ns)) (listed ns (λ n. n) cs)).0 l).0)
 failed_among {ns} (c ∷ cs) l (inr (e, f)) = failed_among cs ((and-eq-true_iff (one_of c.1 (0 ∷ ns)) (listed ns (λ n. n) cs)).0 l).1 f

@@ -1,6 +1,8 @@
 // Replays net/close_handler.rs: stdin has the questions that oracle/src/components/close_handler.rs asked, stdout the Rust's answers.
 // By hand: every list of three events, with equal and other numbers, from either flag; then seeded random events, from a new record every 250 or less.
 // The transitions by value are called: the calls on a lent record are proved equal to them.
+#![tactic(auto)]
+
 use close_handler::{CloseBuffer, CloseState, FinNumber};
 
 fn print_maybe(n: FinNumber) {

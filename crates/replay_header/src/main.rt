@@ -1,6 +1,8 @@
 // Replays core/header.rs: stdin has the questions that oracle/src/components/header.rs asked, stdout the Rust's answers.
 // By hand: the security byte at its ends and read from every byte, each field of a header alone, every first byte, lengths about 20; then seeded random
 // fields and bytes. Left out: versions above 15, masks above 127 and short buffers (11, 10), unknown types (4).
+#![tactic(auto)]
+
 use header::{
     BluefinHeader, BluefinSecurityFields, HeaderRead, HeaderWritten, SecurityRead, SecurityWritten,
 };

@@ -1,6 +1,8 @@
 // Replays net/mod.rs, and the headers that worker/writer.rs sends to close: stdin has the questions that oracle/src/components/net.rs asked, stdout the
 // Rust's answers. By hand: every host, every type, and ids of 0, 1 and 2^32 - 1; each header at the ends of its numbers; then seeded random ones.
 // Left out: short buffers (10). The Rust has no such test, as it writes a header of its own.
+#![tactic(auto)]
+
 use header::HeaderWritten;
 use net::BluefinHost;
 

@@ -3,6 +3,8 @@
 // held, the front at the slots' end, the start set anew, the last numbers of 64 bits; then seeded random commands, from a new number every 250, one in five of
 // them near 2^64. The Rust's 2,000 slots; payloads of at most 64 bytes, which follow from number and length.
 // Left out: 2^64 - 1 (9), which the Rust stores, and a start set anew with packets held (13). Widths and buffers are such that none is refused with 10 or 11.
+#![tactic(auto)]
+
 use ordered_bytes::{
     Accepted, ConsumeAnswer, ConsumeBytesAnswer, ConsumeResult, Created, OrderedBytes, Peeked,
     SlotLength, Started,

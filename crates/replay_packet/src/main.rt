@@ -2,6 +2,8 @@
 // By hand: every type alone with a field that is not its length, payloads one byte short, whole and one byte long, tails of 1 to 20 bytes, empty data packets,
 // the longest datagrams; then seeded random datagrams, half of them cut, lengthened or with a bit or a field changed, and packets written and read alone.
 // Left out: unknown types (4), at which the Rust panics; datagrams above the reading limit, fields out of range and short buffers (11, 10).
+#![tactic(auto)]
+
 use header::{BluefinHeader, HeaderRead};
 use packet::{PacketWritten, Parsed};
 

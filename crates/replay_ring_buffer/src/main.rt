@@ -1,5 +1,7 @@
 // Replays utils/ring_buffer.rs, the calls that touch no cell: stdin has the questions that oracle/src/components/ring_tests.rs asked, stdout the Rust's answers.
 // Asked is every ring that a list of calls can leave, at each capacity from 0 to 8. hosts/replay/ring_buffer replays the calls over cells.
+#![tactic(auto)]
+
 use refusal::Refusal;
 use ring_buffer::{Counted, RingBuffer, Tested};
 

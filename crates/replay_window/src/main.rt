@@ -3,6 +3,8 @@
 // range and in two, the last numbers of 64 bits; then seeded random commands, from a new number every 250, one in five of them near 2^64.
 // Left out: 2^64 - 1 and ranges that reach it (9), where the Rust overflows. There are as many cells as numbers, so that none is refused with 10.
 // The Rust has one error for 5 and 7: both are printed as 5.
+#![tactic(auto)]
+
 use refusal::Refusal;
 use window::{Consumed, Inserted, RangeInserted, SlidingWindow};
 

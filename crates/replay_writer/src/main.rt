@@ -4,6 +4,8 @@
 // most of them about a multiple of 1,500, and random datagrams, half of them with a fault.
 // Left out: numbers that reach 2^64 (9), where the Rust overflows. The output is as long as needed, or longer: none is refused with 10. The bytes of the queue
 // follow from their places.
+#![tactic(auto)]
+
 ghost use Rattle.io.specs.Counts.{IsPrefixLen};
 
 use outstanding::PLACES;

@@ -3,6 +3,8 @@
 // Every decision is made by value, in covered functions; the calls over the lent cells only carry it out.
 // Proved: each call says, and leaves behind in state and cells, what its definition in specs/Ring.antt gives; `slot` and `popped_by` have theirs in specs/Places.antt.
 // proofs/Laws.antt relates these to the queue's records in order.
+#![tactic(auto)]
+
 ghost use Rattle.std.specs.Prelude.{◌≡◌, get_or, set};
 ghost use Rattle.ring_buffer.specs.Ring.{blank, fresh, well_formed, leaves, len_of, is_empty, is_full, push_back, push_front, pop_front, front as front_of, clear as clear_of};
 ghost use Rattle.ring_buffer.specs.Says.{counted_says, tested_says, pushed_says, popped_says, peeked_says, cleared_says, ring_pushed, ring_popped, ring_cleared};

@@ -1,6 +1,8 @@
 // How long to wait before sending again: RFC 6298's smoothing of measured round trips, in whole microseconds (document 02, §2). The Rust has none.
 // The estimator is small and goes by value; nothing is lent.
 // Proved: each call says what the definition says, for every estimator and every sample. How far a step lies from the RFC's exact one is specs/Exact.antt.
+#![tactic(auto)]
+
 ghost use Rattle.std.specs.Prelude.{◌≡◌, true, ◌≤◌, max, pos, nat_abs, ◌+ℤ◌};
 ghost use Rattle.rtt.specs.Rtt.{longest_sample, largest_smoothed, well_formed, fresh, error, after as stepped, sampling, held_between_bounds, waiting, sampled_says, estimator_after, wait_says};
 

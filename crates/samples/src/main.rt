@@ -1,6 +1,8 @@
 // Document 01, "Bench samples". The starred ones are one table, specs/Samples.antt, proved by one statement, proofs/Samples.antt.
 // The boundaries that they leave out are a second table, specs/Boundaries.antt, proved by one statement, proofs/Boundaries.antt.
 // This program writes the sample header and compares it with the sample's bytes. Proved: the comparison holds.
+#![tactic(auto)]
+
 use header::{BluefinHeader, BluefinSecurityFields, PacketType};
 
 // "data header, field 5, source 1, destination 2, number 7"

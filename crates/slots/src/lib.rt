@@ -2,6 +2,8 @@
 // Ports `wrap_index` of net/ordered_bytes.rs; document 01, "From packets to the reader".
 // Internal to this library, so a function may ask that a slot lies in the ring; every public call above it refuses first.
 // Proved: which slot, each lent list as it is left, and that each test is the definition's.
+#![tactic(auto)]
+
 ghost use Rattle.std.specs.Prelude.{◌≡◌, true, false, ◌&&◌, ◌+◌, ◌*◌, ◌≤◌, ◌<◌, length, drop, set, replicate};
 ghost use Rattle.std.proofs.Math.Seq.{paste};
 ghost use Rattle.lists.specs.Within.{all_within};

@@ -2,6 +2,8 @@
 // (document 01, "From acks to the window").
 // Proved: each call says what the definition says, and leaves the window and the cells as it does, for every window and every content of the cells;
 // and after the test of 12 the loops of an insert pay for every pass out of two for each number held and two for each in its range (document 02 §4).
+#![tactic(auto)]
+
 ghost use Rattle.std.specs.Prelude.{◌≡◌, true, ◌&&◌, ◌+◌, ◌-◌, ◌≤◌, ◌<◌, length, take, drop, replicate, ltb};
 ghost use Rattle.std.proofs.Math.Seq.{paste};
 ghost use Rattle.lists.specs.Numbers.{largest};

@@ -1,6 +1,8 @@
 // Packing what is queued into datagrams, and making an empty packet. Ports worker/writer.rs without its sockets, tasks and signalling;
 // document 01, "From the queue to a datagram"; document 02, §3 and §5.
 // Proved: what each call says and leaves in lent memory is the definition's, on every input; what is packed is read back (proofs/Made.antt).
+#![tactic(auto)]
+
 ghost use Rattle.std.specs.Prelude.{◌≡◌, ℕ, ◌+◌, ◌<◌, ◌≤◌, length, take, drop, eqb};
 ghost use Rattle.std.proofs.Math.Seq.{paste};
 ghost use Rattle.lists.specs.Numbers.{largest};
