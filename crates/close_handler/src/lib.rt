@@ -6,7 +6,7 @@
 ghost use Rattle.std.specs.Prelude.{◌≡◌};
 ghost use Rattle.close_handler.specs.Close.{fresh, after_fin, after_fin_ack, after_local_fin, after_closed, after_take, number_in, state_says, state_of, owed, recorded, taken};
 
-#[derive(Drop)]
+#[derive(Clone, Copy)]
 pub enum CloseState {
     Active,
     PeerFinReceived(u64),
@@ -15,14 +15,14 @@ pub enum CloseState {
 }
 
 // The Rust's Option<u64>: the packet number of a FIN, or none.
-#[derive(Drop)]
+#[derive(Clone, Copy)]
 pub enum FinNumber {
     Nothing,
     Number(u64),
 }
 
 // `peer_fin_observed` is shared with the reader in the Rust; here it is a bool of the record.
-#[derive(Drop)]
+#[derive(Clone, Copy)]
 pub struct CloseBuffer {
     pub state: CloseState,
     pub pending_fin_ack_send: FinNumber,

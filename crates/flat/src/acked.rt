@@ -8,7 +8,7 @@ use refusal::Refusal;
 use window::{Consumed, RangeInserted, SlidingWindow};
 
 #[repr(C)]
-#[derive(Drop)]
+#[derive(Clone, Copy)]
 pub struct Inserted {
     pub window: SlidingWindow,
     pub refusal: u8,
@@ -16,7 +16,7 @@ pub struct Inserted {
 
 // A length of 0 says that the smallest expected number is absent.
 #[repr(C)]
-#[derive(Drop)]
+#[derive(Clone, Copy)]
 pub struct Run {
     pub window: SlidingWindow,
     pub last: u64,

@@ -9,7 +9,7 @@ use ordered_bytes::{ConsumeAnswer, ConsumeBytesAnswer, Created, OrderedBytes, Pe
 use refusal::Refusal;
 
 #[repr(C)]
-#[derive(Drop)]
+#[derive(Clone, Copy)]
 pub struct Started {
     pub state: OrderedBytes,
     pub refusal: u8,
@@ -17,7 +17,7 @@ pub struct Started {
 
 // The ack is refusal 5's: its base and its count are 0 with every other answer.
 #[repr(C)]
-#[derive(Drop)]
+#[derive(Clone, Copy)]
 pub struct Accepted {
     pub ack_base: u64,
     pub ack_count: usize,
@@ -25,7 +25,7 @@ pub struct Accepted {
 }
 
 #[repr(C)]
-#[derive(Drop)]
+#[derive(Clone, Copy)]
 pub struct Consumed {
     pub state: OrderedBytes,
     pub num_packets_consumed: usize,
@@ -35,7 +35,7 @@ pub struct Consumed {
 }
 
 #[repr(C)]
-#[derive(Drop)]
+#[derive(Clone, Copy)]
 pub struct ConsumedBytes {
     pub state: OrderedBytes,
     pub num_packets_consumed: usize,

@@ -8,7 +8,7 @@ use close_handler::{CloseBuffer, CloseState, FinNumber};
 use refusal::Refusal;
 
 #[repr(C)]
-#[derive(Drop)]
+#[derive(Clone, Copy)]
 pub struct CloseRecord {
     pub state_fin: u64,
     pub pending_fin_ack_send: u64,
@@ -20,14 +20,14 @@ pub struct CloseRecord {
 }
 
 #[repr(C)]
-#[derive(Drop)]
+#[derive(Clone, Copy)]
 pub struct CloseAfter {
     pub close: CloseRecord,
     pub refusal: u8,
 }
 
 #[repr(C)]
-#[derive(Drop)]
+#[derive(Clone, Copy)]
 pub struct FinAckTaken {
     pub close: CloseRecord,
     pub number: u64,

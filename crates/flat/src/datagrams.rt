@@ -9,7 +9,7 @@ use packet::Indexed;
 use window::SlidingWindow;
 
 #[repr(C)]
-#[derive(Drop)]
+#[derive(Clone, Copy)]
 pub struct AcksReceived {
     pub window: SlidingWindow,
     pub packets: usize,

@@ -7,7 +7,7 @@ ghost use Rattle.flat.specs.Headers.{header_in, flat_header, no_header, written_
 use header::{BluefinHeader, BluefinSecurityFields, HeaderWritten};
 
 #[repr(C)]
-#[derive(Drop)]
+#[derive(Clone, Copy)]
 pub struct Header {
     pub packet_number: u64,
     pub source_connection_id: u32,
@@ -20,14 +20,14 @@ pub struct Header {
 }
 
 #[repr(C)]
-#[derive(Drop)]
+#[derive(Clone, Copy)]
 pub struct Written {
     pub bytes: usize,
     pub refusal: u8,
 }
 
 #[repr(C)]
-#[derive(Drop)]
+#[derive(Clone, Copy)]
 pub struct HeaderRead {
     pub header: Header,
     pub cursor: usize,

@@ -8,14 +8,14 @@ ghost use Rattle.flat.specs.Kept.{listed_of, dropped_of, flat_dropping};
 use outstanding::Outstanding;
 
 #[repr(C)]
-#[derive(Drop)]
+#[derive(Clone, Copy)]
 pub struct Listed {
     pub packets: usize,
     pub refusal: u8,
 }
 
 #[repr(C)]
-#[derive(Drop)]
+#[derive(Clone, Copy)]
 pub struct Dropped {
     pub outstanding: Outstanding,
     pub refusal: u8,

@@ -11,7 +11,7 @@ use packet::{Indexed, PacketWritten};
 
 // `packets` is how many stand in the index, refused or not.
 #[repr(C)]
-#[derive(Drop)]
+#[derive(Clone, Copy)]
 pub struct Parsed {
     pub packets: usize,
     pub cursor: usize,

@@ -10,7 +10,7 @@ use ring_buffer::{AckData, RingBuffer};
 use writer::acks::AcksAnswer;
 
 #[repr(C)]
-#[derive(Drop)]
+#[derive(Clone, Copy)]
 pub struct Pushed {
     pub ring: RingBuffer,
     pub given_back: AckData,
@@ -19,7 +19,7 @@ pub struct Pushed {
 }
 
 #[repr(C)]
-#[derive(Drop)]
+#[derive(Clone, Copy)]
 pub struct Popped {
     pub ring: RingBuffer,
     pub ack: AckData,
@@ -27,14 +27,14 @@ pub struct Popped {
 }
 
 #[repr(C)]
-#[derive(Drop)]
+#[derive(Clone, Copy)]
 pub struct Cleared {
     pub ring: RingBuffer,
     pub refusal: u8,
 }
 
 #[repr(C)]
-#[derive(Drop)]
+#[derive(Clone, Copy)]
 pub struct AcksPacked {
     pub ring: RingBuffer,
     pub acks: usize,

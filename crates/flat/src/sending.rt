@@ -11,7 +11,7 @@ use outstanding::Outstanding;
 use writer::{DataAnswer, ReserveAnswer};
 
 #[repr(C)]
-#[derive(Drop)]
+#[derive(Clone, Copy)]
 pub struct DataPacked {
     pub bytes: usize,
     pub packets: usize,
@@ -23,7 +23,7 @@ pub struct DataPacked {
 }
 
 #[repr(C)]
-#[derive(Drop)]
+#[derive(Clone, Copy)]
 pub struct Reserved {
     pub number: u64,
     pub next_packet_num: u64,

@@ -7,14 +7,14 @@ ghost use Rattle.flat.specs.Waiting.{sampled_of, wait_of};
 use rtt::RttEstimator;
 
 #[repr(C)]
-#[derive(Drop)]
+#[derive(Clone, Copy)]
 pub struct Sampled {
     pub estimator: RttEstimator,
     pub refusal: u8,
 }
 
 #[repr(C)]
-#[derive(Drop)]
+#[derive(Clone, Copy)]
 pub struct Wait {
     pub micros: u64,
     pub refusal: u8,

@@ -12,7 +12,7 @@ ghost use Rattle.header.specs.Header.{serialises_security, deserialises_security
 
 use refusal::Refusal;
 
-#[derive(Drop)]
+#[derive(Clone, Copy)]
 pub enum PacketType {
     UnencryptedClientHello,
     UnencryptedServerHello,
@@ -24,7 +24,7 @@ pub enum PacketType {
 }
 
 // What the table says of a type number.
-#[derive(Drop)]
+#[derive(Clone, Copy)]
 pub struct TypeRow {
     pub known: bool,
     pub has_payload: bool,
@@ -140,19 +140,19 @@ pub fn number_at_unchecked(bytes: &[u8], at: usize) -> u64
 }
 
 // The security byte's fields. A mask above 127 may be held; writing refuses it.
-#[derive(Drop)]
+#[derive(Clone, Copy)]
 pub struct BluefinSecurityFields {
     pub header_encrypted: bool,
     pub header_protection_mask: u8,
 }
 
-#[derive(Drop)]
+#[derive(Clone, Copy)]
 pub enum SecurityWritten {
     Byte(u8),
     Refused(Refusal),
 }
 
-#[derive(Drop)]
+#[derive(Clone, Copy)]
 pub enum SecurityRead {
     Fields(BluefinSecurityFields),
     Refused(Refusal, usize),
@@ -224,7 +224,7 @@ impl BluefinSecurityFields {
     }
 }
 
-#[derive(Drop)]
+#[derive(Clone, Copy)]
 pub struct BluefinHeader {
     pub version: u8,
     pub type_field: PacketType,
@@ -235,13 +235,13 @@ pub struct BluefinHeader {
     pub packet_number: u64,
 }
 
-#[derive(Drop)]
+#[derive(Clone, Copy)]
 pub enum HeaderWritten {
     Bytes(usize),
     Refused(Refusal),
 }
 
-#[derive(Drop)]
+#[derive(Clone, Copy)]
 pub enum HeaderRead {
     Header(BluefinHeader),
     Refused(Refusal, usize),

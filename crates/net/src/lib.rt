@@ -24,7 +24,7 @@ pub const MAX_BLUEFIN_BYTES_IN_UDP_DATAGRAM: usize = MAX_BLUEFIN_PACKETS_IN_UDP_
     * (BLUEFIN_HEADER_SIZE_BYTES + MAX_BLUEFIN_PAYLOAD_SIZE_BYTES);
 
 // The side of a connection. The Rust compares its own with the first two only: `Other` stands for every further one.
-#[derive(Drop)]
+#[derive(Clone, Copy)]
 pub enum BluefinHost {
     PackLeader,
     Client,

@@ -18,7 +18,7 @@ mod stream;
 
 // What is small of the buffer. The rest is lent beside it: a mark and a length for each slot, and the store of (N + 1) × W bytes.
 #[repr(C)]
-#[derive(Drop)]
+#[derive(Clone, Copy)]
 pub struct OrderedBytes {
     pub slot_width: usize,
     pub front_slot: usize,
@@ -26,60 +26,60 @@ pub struct OrderedBytes {
     pub carry_len: usize,
 }
 
-#[derive(Drop)]
+#[derive(Clone, Copy)]
 pub enum Created {
     Buffer(OrderedBytes),
     Refused(Refusal),
 }
 
-#[derive(Drop)]
+#[derive(Clone, Copy)]
 pub enum Started {
     Buffer(OrderedBytes),
     Refused(Refusal),
 }
 
 // Refusal 5 stands apart: it gives an ack, of that number and count 1, in the form of a read's (document 02, §3).
-#[derive(Drop)]
+#[derive(Clone, Copy)]
 pub enum Accepted {
     Stored,
     Below(ConsumeResult),
     Refused(Refusal),
 }
 
-#[derive(Drop)]
+#[derive(Clone, Copy)]
 pub enum Peeked {
     Available,
     Refused(Refusal),
 }
 
 // What a read gave: the packets that left their slots, the number of the front one or 0, and the bytes given.
-#[derive(Drop)]
+#[derive(Clone, Copy)]
 pub struct ConsumeResult {
     pub num_packets_consumed: usize,
     pub base_packet_number: u64,
     pub bytes_consumed: u64,
 }
 
-#[derive(Drop)]
+#[derive(Clone, Copy)]
 pub enum ConsumeAnswer {
     Given(ConsumeResult),
     Refused(Refusal),
 }
 
 // Refusal 8 may still take empty packets, so every answer of a read carries the state.
-#[derive(Drop)]
+#[derive(Clone, Copy)]
 pub struct Consumed {
     pub state: OrderedBytes,
     pub answer: ConsumeAnswer,
 }
 
-#[derive(Drop)]
+#[derive(Clone, Copy)]
 pub enum ConsumeBytesAnswer {
     Given(ConsumeResult, usize),
     Refused(Refusal),
 }
 
-#[derive(Drop)]
+#[derive(Clone, Copy)]
 pub struct ConsumedBytes {
     pub state: OrderedBytes,
     pub answer: ConsumeBytesAnswer,

@@ -11,14 +11,14 @@ use crate::{ConsumeBytesAnswer, ConsumeResult, OrderedBytes, SlotLength, front};
 use refusal::Refusal;
 
 // Payloads of held packets from the front on, and their bytes.
-#[derive(Drop)]
+#[derive(Clone, Copy)]
 struct Payloads {
     packets: usize,
     bytes: usize,
 }
 
 // What a read takes: packets, pieces and bytes, and the base that it answers.
-#[derive(Drop)]
+#[derive(Clone, Copy)]
 pub struct Pieces {
     pub packets: usize,
     pub pieces: usize,

@@ -12,7 +12,7 @@ use parts::smaller;
 use refusal::Refusal;
 
 // What a walk took: packets, bytes given, and where in the store the rest of a split packet stands and how long it is.
-#[derive(Drop)]
+#[derive(Clone, Copy)]
 pub struct Walked {
     pub packets: usize,
     pub bytes: usize,
@@ -21,7 +21,7 @@ pub struct Walked {
 }
 
 // What a read copied: the same, with the carry-over's bytes, and the base that it answers.
-#[derive(Drop)]
+#[derive(Clone, Copy)]
 pub struct BytesRead {
     pub packets: usize,
     pub base: u64,

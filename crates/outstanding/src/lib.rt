@@ -26,18 +26,18 @@ const PACKET_SIZE: usize = 20 + PAYLOAD_SIZE;
 
 // How many packets are kept. The rest is lent beside it: their numbers and payload lengths, a cell to each, and the packets whole and end to end.
 #[repr(C)]
-#[derive(Drop)]
+#[derive(Clone, Copy)]
 pub struct Outstanding {
     pub count: usize,
 }
 
-#[derive(Drop)]
+#[derive(Clone, Copy)]
 pub enum Listed {
     Packets(usize),
     Refused(Refusal),
 }
 
-#[derive(Drop)]
+#[derive(Clone, Copy)]
 pub enum Dropped {
     Left(Outstanding),
     Refused(Refusal),

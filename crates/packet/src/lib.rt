@@ -17,13 +17,13 @@ use refusal::Refusal;
 // The longest datagram that is read, document 02 §1: IPv4's total length of 65,535, less 20 bytes of its own header and 8 of UDP's.
 pub const READING_LIMIT: usize = 65507;
 
-#[derive(Drop)]
+#[derive(Clone, Copy)]
 pub enum PacketWritten {
     Bytes(usize),
     Refused(Refusal),
 }
 
-#[derive(Drop)]
+#[derive(Clone, Copy)]
 pub enum Parsed {
     Packets(usize),
     Refused(Refusal),
@@ -75,7 +75,7 @@ pub fn payload_of(bytes: &[u8]) -> &[u8]
 }
 
 // What stands at a cursor: a packet with as many payload bytes, a fault, or the end.
-#[derive(Drop)]
+#[derive(Clone, Copy)]
 enum Look {
     Packet(usize),
     Fault(Refusal),
@@ -113,7 +113,7 @@ fn look_at(datagram: &[u8], at: usize, types: &[u8; 16]) -> Look
 }
 
 // The walk behind a packet met, with its payload's length and the next cursor; or its answer.
-#[derive(Drop)]
+#[derive(Clone, Copy)]
 enum Advance {
     Met(usize, usize),
     Ended(Parsed),
@@ -165,7 +165,7 @@ fn count(datagram: &[u8], room: usize) -> Parsed
 }
 
 // What `from_bytes_into` answers, and how many packets stand in the index, refused or not.
-#[derive(Drop)]
+#[derive(Clone, Copy)]
 pub struct Indexed {
     pub answer: Parsed,
     pub cells: usize,

@@ -13,7 +13,7 @@ use window::{RangeInserted, SlidingWindow};
 const ACK: u8 = 4;
 
 // The window to go on with, and 0 or the refusal's number.
-#[derive(Drop)]
+#[derive(Clone, Copy)]
 struct Entered {
     window: SlidingWindow,
     refusal: u8,

@@ -17,7 +17,7 @@ mod acks;
 mod data;
 
 // The window to go on with, what `from_bytes_into` answers, and how many packets stand in the index, refused or not.
-#[derive(Drop)]
+#[derive(Clone, Copy)]
 pub struct AcksReceived {
     pub window: SlidingWindow,
     pub answer: Parsed,

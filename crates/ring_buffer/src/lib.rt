@@ -15,7 +15,7 @@ use refusal::Refusal;
 
 // The Rust's worker/writer.rs, `AckData`; the count has document 01's 32 bits.
 #[repr(C)]
-#[derive(Drop)]
+#[derive(Clone, Copy)]
 pub struct AckData {
     pub base_packet_num: u64,
     pub num_packets_consumed: u32,
@@ -23,45 +23,45 @@ pub struct AckData {
 
 // The Rust's utils/ring_buffer.rs, `RingBuffer`, without the buffer, which is lent, and the capacity, which is its length.
 #[repr(C)]
-#[derive(Drop)]
+#[derive(Clone, Copy)]
 pub struct RingBuffer {
     pub head: usize,
     pub tail: usize,
     pub len: usize,
 }
 
-#[derive(Drop)]
+#[derive(Clone, Copy)]
 pub enum Counted {
     Count(usize),
     Refused(Refusal),
 }
 
-#[derive(Drop)]
+#[derive(Clone, Copy)]
 pub enum Tested {
     Is(bool),
     Refused(Refusal),
 }
 
-#[derive(Drop)]
+#[derive(Clone, Copy)]
 pub enum Pushed {
     Stored(RingBuffer),
     Full(AckData),
     Refused(Refusal),
 }
 
-#[derive(Drop)]
+#[derive(Clone, Copy)]
 pub enum Popped {
     Record(RingBuffer, AckData),
     Refused(Refusal),
 }
 
-#[derive(Drop)]
+#[derive(Clone, Copy)]
 pub enum Peeked {
     Record(AckData),
     Refused(Refusal),
 }
 
-#[derive(Drop)]
+#[derive(Clone, Copy)]
 pub enum Cleared {
     Empty(RingBuffer),
     Refused(Refusal),

@@ -26,20 +26,20 @@ const FIRST_WAIT: u64 = 1000000;
 // RFC 6298's SRTT in eighths of a microsecond, and its RTTVAR in quarters. That no sample has come needs a mark of its own: a sample of 0 leaves two zeros too,
 // and the next one then counts for an eighth.
 #[repr(C)]
-#[derive(Drop)]
+#[derive(Clone, Copy)]
 pub struct RttEstimator {
     pub smoothed: u64,
     pub variation: u64,
     pub sampled: bool,
 }
 
-#[derive(Drop)]
+#[derive(Clone, Copy)]
 pub enum Sampled {
     Taken(RttEstimator),
     Refused(Refusal),
 }
 
-#[derive(Drop)]
+#[derive(Clone, Copy)]
 pub enum Wait {
     Micros(u64),
     Refused(Refusal),

@@ -20,27 +20,27 @@ use refusal::Refusal;
 pub const MAX_SLIDING_WINDOW_SIZE: u64 = 40000;
 
 #[repr(C)]
-#[derive(Drop)]
+#[derive(Clone, Copy)]
 pub struct SlidingWindow {
     pub smallest_expected: u64,
     pub count: usize,
 }
 
-#[derive(Drop)]
+#[derive(Clone, Copy)]
 pub enum Inserted {
     Stored(SlidingWindow),
     Refused(Refusal),
 }
 
 // At `AlreadyHeld` the numbers of the range before the first held one are stored.
-#[derive(Drop)]
+#[derive(Clone, Copy)]
 pub enum RangeInserted {
     Stored(SlidingWindow),
     AlreadyHeld(SlidingWindow),
     Refused(Refusal),
 }
 
-#[derive(Drop)]
+#[derive(Clone, Copy)]
 pub enum Consumed {
     Run {
         last: u64,

@@ -13,27 +13,27 @@ use refusal::Refusal;
 use ring_buffer::{AckData, RingBuffer};
 
 // How many acks were packed, and whether there is anything to send.
-#[derive(Drop)]
+#[derive(Clone, Copy)]
 pub struct AcksPacked {
     pub acks: usize,
     pub to_send: bool,
 }
 
-#[derive(Drop)]
+#[derive(Clone, Copy)]
 pub enum AcksAnswer {
     Packed(RingBuffer, AcksPacked),
     Refused(Refusal),
 }
 
 // What the checks let through.
-#[derive(Drop)]
+#[derive(Clone, Copy)]
 enum Verdict {
     Pack(usize),
     Refuse(Refusal),
 }
 
 // The acks to pack: so many from the ring's front, their headers from `used` on.
-#[derive(Drop)]
+#[derive(Clone, Copy)]
 struct AckBatch {
     ring: RingBuffer,
     taken: usize,

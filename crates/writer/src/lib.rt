@@ -29,7 +29,7 @@ const BYTE_LIMIT: usize = net::MAX_BLUEFIN_PACKETS_IN_UDP_DATAGRAM * PAYLOAD_SIZ
 
 // What a packing took and made: payload bytes, packets, the number after the last one, entries removed from the queue's front, and bytes cut
 // from the first entry left.
-#[derive(Drop)]
+#[derive(Clone, Copy)]
 pub struct DataPacked {
     pub bytes: usize,
     pub packets: usize,
@@ -39,41 +39,41 @@ pub struct DataPacked {
 }
 
 // With a packing, the store's state after it.
-#[derive(Drop)]
+#[derive(Clone, Copy)]
 pub enum DataAnswer {
     Packed(DataPacked, Outstanding),
     Refused(Refusal),
 }
 
 // With an empty packet, the number after it and the store's state.
-#[derive(Drop)]
+#[derive(Clone, Copy)]
 pub enum EmptyAnswer {
     Packed(u64, Outstanding),
     Refused(Refusal),
 }
 
 // A FIN's number, and the next one.
-#[derive(Drop)]
+#[derive(Clone, Copy)]
 pub struct Reservation {
     pub number: u64,
     pub next_packet_num: u64,
 }
 
-#[derive(Drop)]
+#[derive(Clone, Copy)]
 pub enum ReserveAnswer {
     Reserved(Reservation),
     Refused(Refusal),
 }
 
 // What a packing under a limit comes to before it is kept.
-#[derive(Drop)]
+#[derive(Clone, Copy)]
 enum Taken {
     Packed(DataPacked),
     Refused(Refusal),
 }
 
 // The entries that leave the queue, and the bytes cut from the first one left.
-#[derive(Drop)]
+#[derive(Clone, Copy)]
 struct Removal {
     entries: usize,
     cut: usize,
