@@ -103,7 +103,8 @@ fn look_at(datagram: &[u8], at: usize, types: &[u8; 16]) -> Look
         return Look::Packet(0);
     }
     let field = header::field_at_unchecked(datagram, at) as usize;
-    if left <= 20 {
+    let header = 20;
+    if left <= header {
         return Look::Fault(Refusal::PayloadMissing);
     }
     if left <= 19 + field {

@@ -19,17 +19,17 @@ returns-then-not-row-2 c =
     sym (at_no_payload _ _ c.if-left-lt20.false (c.row_in_unchecked-row.ensures ∙ ap row_of c.type_at_unchecked.ensures) c.if-not-row.false c.if-not-row-2.true)
 
 -- a packet with a payload, which is missing or not
-pub returns-then-left-le20 : goal.returns-then-left-le20
-returns-then-left-le20 c =
+pub returns-then-left-header : goal.returns-then-left-header
+returns-then-left-header c =
     sym (at_payload _ _ c.if-left-lt20.false (c.row_in_unchecked-row.ensures ∙ ap row_of c.type_at_unchecked.ensures) c.if-not-row.false c.if-not-row-2.false
-    c.field_at_unchecked-field.ensures (header_last _ _ _ c.if-left-le20.true))
+    c.field_at_unchecked-field.ensures (header_last _ _ _ c.if-left-header.true))
 
 pub returns-then-left-field : goal.returns-then-left-field
 returns-then-left-field c =
     sym (at_payload _ _ c.if-left-lt20.false (c.row_in_unchecked-row.ensures ∙ ap row_of c.type_at_unchecked.ensures) c.if-not-row.false c.if-not-row-2.false
-    c.field_at_unchecked-field.ensures (payload_short _ _ _ c.if-left-le20.false c.if-left-field.true))
+    c.field_at_unchecked-field.ensures (payload_short _ _ _ c.if-left-header.false c.if-left-field.true))
 
 pub returns : goal.returns
 returns c =
     sym (at_payload _ _ c.if-left-lt20.false (c.row_in_unchecked-row.ensures ∙ ap row_of c.type_at_unchecked.ensures) c.if-not-row.false c.if-not-row-2.false
-    c.field_at_unchecked-field.ensures (payload_whole _ _ _ c.if-left-le20.false c.if-left-field.false))
+    c.field_at_unchecked-field.ensures (payload_whole _ _ _ c.if-left-header.false c.if-left-field.false))
