@@ -10,7 +10,8 @@ use native.Mathlib.Omega.{arith}
 use lib.ListN.{length, take, drop, get_or, set, replicate, length-append, length-drop, length-replicate, take-append-drop}
 use lib.Seq.{paste, length-take-le, get_or-take, take-take, take-length, paste-suc, slice_empty, slice-cons}
 use lib.Dec.{ltb, eqb}
-use borrow.Author.Tests.{lt-ltb, le-ltb, ltb-true}
+use borrow.Author.Tests.{lt-ltb, le-ltb, lt-leb, ne_eqb, ltb-true}
+use Rattle.lists.specs.Numbers.{largest}
 use Rattle.refusal.specs.Said.{answers, refuses, refusal_in, checks}
 use Rattle.lists.proofs.Tests.{both}
 use Rattle.lists.proofs.Rising.{first_last}
@@ -18,9 +19,9 @@ use Rattle.lists.proofs.Paste.{length_part, paste_all, paste_behind}
 use Rattle.lists.proofs.Taken.{paste-taken}
 use Rattle.lists.proofs.Shift.{drop-take, take_before_paste, drop_at_paste}
 use Rattle.window.specs.declared.SlidingWindow.{SlidingWindow}
-use Rattle.window.specs.Window.{Outcome, refused, expected, held, too_few, member, rising, holdable, all_holdable, place, numbers, stored}
-use Rattle.window.specs.Window.{stored_cells, grown, before_held, store_before, store_run, run_length}
-use Rattle.window.proofs.Rises.{bound, WellFormed, is_holdable, holdable_is, is_member, not-before, place-from}
+use Rattle.window.specs.Window.{window_size, Outcome, refused, expected, held, too_few, member, rising, holdable, all_holdable, place, numbers, stored}
+use Rattle.window.specs.Window.{well_formed, stored_cells, grown, before_held, store_before, store_run, insert_packet_number, insert_range, run_length}
+use Rattle.window.proofs.Rises.{bound, WellFormed, well_formed_lem, is_holdable, holdable_is, is_member, not-before, place-from}
 use Rattle.window.proofs.Members.{before_is}
 
 -- `well_formed`: rising numbers may all be held where the first and the last may
@@ -159,6 +160,19 @@ one-held w v cells left n h e = rw (by (member n (held w cells)) (too_few w cell
     by true t e = ap (λ (o : Outcome Unit). o.1) e
     by false true e = absurd (let z : ◌≡◌ {A = ℕ} 7 10 = ap (λ (o : Outcome Unit). refusal_in o.0) e in omega arith)
     by false false e = absurd (let z : ◌≡◌ {A = ℕ} 7 0 = ap (λ (o : Outcome Unit). refusal_in o.0) e in omega arith)
+
+-- past an insert's tests: what is left of the definition
+pub one_past : (w : SlidingWindow) (cells : List ℕ) (n : ℕ) → well_formed w cells ≡ true → expected w ≤ n → n - expected w < window_size → n < largest
+    → insert_packet_number w cells n ≡ store_run w cells n 1
+unfolding insert_packet_number
+one_past w cells n h l m u =
+    simp (h, le-ltb n (expected w) l, lt-leb window_size (n - expected w) m, lt-leb largest n u) (sym (one_is w cells n (well_formed_lem w cells h).fits))
+
+pub range_past : (w : SlidingWindow) (cells : List ℕ) (base count : ℕ) → well_formed w cells ≡ true → (count ≡ 0 → ⊥) → expected w ≤ base
+    → base + count ≤ largest → base + count - 1 - expected w < window_size → insert_range w cells base count ≡ store_run w cells base count
+unfolding insert_range
+range_past w cells base count h d l u m =
+    simp (h, ne_eqb count 0 d, le-ltb base (expected w) l, le-ltb largest (base + count) u, lt-leb window_size (base + count - 1 - expected w) m)
 
 -- `shift_down`, then `clear`: k numbers consumed
 pub consumed_is : (cells shifted left : List ℕ) (k count : ℕ) → k ≤ count → count ≤ length cells
