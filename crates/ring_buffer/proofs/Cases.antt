@@ -22,7 +22,7 @@ use Rattle.ring_buffer.specs.declared.RingBuffer.{RingBuffer}
 pub says : {A : Type 0} {x y : Outcome A} → x ≡ y → (x.said ≡ y.said) × (x.ring ≡ y.ring)
 says {A} p = (ap (λ (r : Outcome A). r.said) p, ap (λ (r : Outcome A). r.ring) p)
 
--- an same_outcome is known by its three parts
+-- an outcome is known by its three parts
 pub same_outcome : {A : Type 0} {s : Said A} {g : RingBuffer} {ys : List AckData} {x : Outcome A} → s ≡ x.said → g ≡ x.ring → ys ≡ x.cells → leaves s g ys ≡ x
 same_outcome p q r = rw (p, q, r) refl
 

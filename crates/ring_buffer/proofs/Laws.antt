@@ -48,7 +48,7 @@ set_front {A} (x ∷ l) n a h = ap (λ (r : List A). a ∷ r) (sym (take-append-
 same_ring : {h i t l m : ℕ} → h ≡ i → l ≡ m → ◌≡◌ {A = RingBuffer} (record { head = h; tail = t; len = l }) (record { head = i; tail = t; len = m })
 same_ring p q = rw (p, q) refl
 
--- what an same-outcome's ring and cells are, and that they fit
+-- what an outcome's ring and cells are, and that they fit
 abbrev pub queue : {A : Type 0} → Outcome A → List AckData
 queue x = contents x.ring x.cells
 

@@ -1,8 +1,4 @@
-pub mod Positions
-pub mod Cases
 pub mod Blanked
+pub mod Cases
 pub mod Laws
-pub mod Record
-pub mod Calls
-pub mod Exchange
-pub mod Push
+pub mod Positions

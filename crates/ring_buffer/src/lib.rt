@@ -1,6 +1,6 @@
 // The ring of queued acks: records in a lent run of cells that is used round and round. Document 01, "The ring"; the Rust's utils/ring_buffer.rs.
 // The state is small and goes by value beside the lent cells, whose number is the capacity. Calls that touch no cell take the capacity alone.
-// Every decision is made by value, in covered functions; the calls over the lent cells only carry it out.
+// Every decision is made by value, in functions of its own; the calls over the lent cells only carry it out.
 // Proved: each call says, and leaves behind in state and cells, what its definition in specs/Ring.antt gives; `slot` and `popped_by` have theirs in specs/Places.antt.
 // proofs/Laws.antt relates these to the queue's records in order.
 #![tactic(auto)]
@@ -79,6 +79,7 @@ pub fn slot(head: usize, capacity: usize, i: usize) -> usize
 }
 
 // The test of refusal 12.
+#[tactic(auto, using(crate::proofs::Positions::slot_is))]
 pub fn is_well_formed(ring: RingBuffer, capacity: usize) -> bool
     ensures { result ≡ well_formed ring capacity }
 {
