@@ -5,7 +5,7 @@
 --     started ls bs vs Γ    the same where the body begins: room for the result, and the parameters hold vs
 --     enters                into a function. Behind the carried item, local k stands at the entry 1 + 2k
 --     leaves                out of it: the result is read, all locals are freed, and the carried item is left
---     leaves-within         the same from within a branch or a loop
+--     leaves_within         the same from within a branch or a loop
 -- Assumes nothing.
 use Prim.Native.Nat.{zero}
 use lib.Dec.{T}

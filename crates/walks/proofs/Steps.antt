@@ -1,15 +1,15 @@
 -- Steps that walks share, in `Types/Kit.antt`'s calculus; they say nothing of a crate.
---     of-local, sets, gets     a local as an operand; a local that is assigned, or gets a call's result
---     stays-if, leaves-if      the test of a `while`, where the value that it reads is known by an equation
+--     of_local, sets, gets     a local as an operand; a local that is assigned, or gets a call's result
+--     stays_if, leaves_if      the test of a `while`, where the value that it reads is known by an equation
 --     Kind R           a type whose values are had for nothing: a value's one machine value, that what is owned tells it, and that it is made
 --     has              what is owned of a value of such a type
---     lent-in          what a function asks to which a slice is lent, where its other arguments are had for nothing
+--     lent_in          what a function asks to which a slice is lent, where its other arguments are had for nothing
 --     calls_by         a call by its contract: a fact of the result and of the last values, the tokens, and what says the last values
---     calls-value      the same of a function whose arguments are had for nothing, with no lifetime
+--     calls_value      the same of a function whose arguments are had for nothing, with no lifetime
 --     Upto, Nearer     the variant of a loop that counts up to k, with what is known at each count
---     meets-by         a function that was walked meets its contract
+--     meets_by         a function that was walked meets its contract
 -- Assumes `Logic`.
-use types.Logic.{Logic, sem}
+use types.Logic.{Logic}
 use denote.Ref.{MutBor}
 use mathlib.Core.WellFounded.InvImage
 use mathlib.Core.{WellFounded.WellFounded}
@@ -18,7 +18,7 @@ use lib.{WfN.lt-wf_rel}
 use mir.Syntax.{Lifetime, Width, Place, Opd as Operand, Rv as RValue, cond, skip, exit}
 use base.{Logic.comm∗, Logic.mono∗, Logic.emp∗, Fml.fsep}
 use prog.{Wp.exits, Wp.spot_of, Wp.Closed, Model.Model, Routine.Env as Routines}
-use contract.{Lifetimes.Lfts, Lifetimes.Shares, Running.Running, Running.GhostRules}
+use contract.{Lifetimes.Lfts, Lifetimes.Shares, Running.Running}
 use types.Kit.{use0, post, prop}
 use types.Run.{Rv, Writes, stays, leaves_loop}
 use denote.{RattleType.Denots, RattleType.Valss, RattleType.flat, Signature.type_at, Signature.types_at, Steps.only, Steps.heard, Steps.facts, Builtin.unit}
@@ -32,10 +32,10 @@ use denote.Enum.Laws as EL
 use denote.Triple.{Spec.triple_of, Call.calls_at, Entry.Args, Entry.Res, Entry.alive, Table.entered, Walked.AllGo, Walked.walk_Meets}
 use denote.Triple.Clauses.{Ended, Clauses, Lasts, AtExit, at_exit, lasts, closing}
 use sound.WpLaws.{WpFn-mono}
-use Rattle.walks.proofs.Names.{◌≡◌, sym, ap, subst, Bool, true, false, List, [], ◌∷◌, ℕ, ◌<◌, length, Ura, Name, Fn, Body, w64, place, copy, seq, assign, call, Val, vunit, vint, vbool, SProp}
-use Rattle.walks.proofs.Names.{ent, sep, emp, id⊢, via, Fml, GName, Lft, Share, fat, Env, Calls, Loops, WpFn, sem, Fun, fact, given_of, tables, AllOutlive, tables_of, Item, ‵}
+use Rattle.walks.proofs.Names.{◌≡◌, sym, ap, subst, Bool, true, false, List, [], ◌∷◌, ℕ, ◌<◌, length, Ura, Callee, Fn, Body, w64, place, copy, seq, assign, call, Val, vunit, vint, vbool, SProp}
+use Rattle.walks.proofs.Names.{ent, sep, emp, id⊢, via, Fml, GName, Lft, Share, fat, Env, Calls, Loops, WpFn, sem, Fun, fact, tables, AllOutlive, tables_of, Item, ‵}
 use Rattle.walks.proofs.Names.{raw, ◌⊛◌, some, later, Seq, Step, Goal, Post, lands, nth, runs, ◌$◌, move, drop, use1, split, pick, await, Opd, Opds, look, stop, from, load, assigns, land, FmC}
-use Rattle.walks.proofs.Names.{RattleType, owns, Is, shows, uint_Tells, uint_Lawful, RefT, owned, usize, bool, slice_val, MutSlice, Contract, Triple, on_entry, Stays, walk_of, walked}
+use Rattle.walks.proofs.Names.{RattleType, owns, Is, shows, uint_Tells, uint_Lawful, owned, usize, bool, slice_val, MutSlice, Contract, Triple, on_entry, Stays, walk_of, walked}
 
 -- ---- the locals
 
@@ -123,7 +123,7 @@ module _ {M : Type 1} {𝓤 : Ura M} (𝓛 : Logic 𝓤) where
 
 -- a slice at its address, by another name and list, its machine value, and what is owned of it
 abbrev pub relent : {D : Type 0} → MutBor (List D) → GName → List D → MutBor (List D)
-relent x δ l = record { ref_ptr = x.ptr; ghost_name = δ; now = l }
+relent x δ l = record { ref_ptr = x.ref_ptr; ghost_name = δ; now = l }
 
 abbrev pub in_memory : {D : Type 0} → MutBor (List D) → Val
 in_memory x = slice_val x.ref_ptr (length x.now)
@@ -146,7 +146,7 @@ abbrev pub Called : {M : Type 1} {𝓤 : Ura M} (𝓛 : Logic 𝓤) (T : Ended) 
 Called 𝓛 T c = triple_of 𝓛 T.signature (closing 𝓛 T c)
 
 module _ {M : Type 1} {𝓤 : Ura M} {𝓛 : Logic 𝓤} {K : Type 0} {Γ : List (Item 𝓤)} {E : Env 𝓤 𝓛.H} {C : Calls 𝓤 𝓛.H} {Λ : Loops 𝓤 𝓛.H}
-    {q : Post 𝓤 𝓛.H} {f : Name} {xs : List Operand} {d : Place} {rest : Body} where
+    {q : Post 𝓤 𝓛.H} {f : Callee} {xs : List Operand} {d : Place} {rest : Body} where
   open 𝓛 use {H}
 
   module _ (t : K) (fm : FmC 𝓤 H 𝓛.laws C) (T : Ended) (c : Clauses 𝓤 T) (met : Triple 𝓤 (C f) (Called 𝓛 T c)) where
@@ -201,8 +201,8 @@ module _ (k : ℕ) (X : ℕ → Type 0) where
 module _ {M : Type 1} {𝓤 : Ura M} (𝓛 : Logic 𝓤) (𝓜 : Model 𝓤 𝓛.H) (𝓡 : Running 𝓤 𝓛.H 𝓜) (γ : Routines) (T : Ended) (hs : Stays T.signature.params T.kept) (c : Clauses 𝓤 T) where
   open 𝓛 use {H}
 
-  pub meets_by : AllGo (given_of 𝓛 𝓜) T.signature.lifetimes T.signature.params T.kept hs
-      → (k : Name) (f : Fn) → Closed 𝓤 H (tables 𝓤 H 𝓜 𝓡 γ).C (tables 𝓤 H 𝓜 𝓡 γ).Λ k f
+  pub meets_by : AllGo 𝓛 T.signature.lifetimes T.signature.params T.kept hs
+      → (k : Callee) (f : Fn) → Closed 𝓤 H (tables 𝓤 H 𝓜 𝓡 γ).C (tables 𝓤 H 𝓜 𝓡 γ).Λ k f
       → (sp : (κs : Lfts T.signature.lifetimes) → Spells (types_at T.signature.params κs))
       → ((κs : Lfts T.signature.lifetimes) → Tellss (types_at T.signature.params κs) (Ises (types_at T.signature.params κs)) (sp κs))
       → ((κs : Lfts T.signature.lifetimes) (qs : Shares T.signature.lifetimes) (bounds : AllOutlive T.signature.lifetimes T.signature.outlives κs) (a : Args T.signature κs)
@@ -215,5 +215,5 @@ module _ {M : Type 1} {𝓤 : Ura M} (𝓛 : Logic 𝓤) (𝓜 : Model 𝓤 𝓛
   meets_by goes k f closed sp tl walk =
       let run : Fun 𝓤 = WpFn 𝓤 H (tables 𝓤 H 𝓜 𝓡 γ).C (tables 𝓤 H 𝓜 𝓡 γ).Λ f in
       entered 𝓤 H (Called 𝓛 T c) (tables 𝓤 H 𝓜 𝓡 γ).C (tables 𝓤 H 𝓜 𝓡 γ).Λ k f closed
-      (walk_Meets (given_of 𝓛 𝓜) T hs goes c run
-      (WpFn-mono 𝓤 H (given_of 𝓛 𝓜).laws (tables_of 𝓤 H 𝓜 (tables 𝓤 H 𝓜 𝓡 γ)) f) (walked 𝓛 T hs c run sp tl walk))
+      (walk_Meets 𝓛 T hs goes c run
+      (WpFn-mono 𝓤 H 𝓛.laws (tables_of 𝓤 H 𝓜 (tables 𝓤 H 𝓜 𝓡 γ)) f) (walked 𝓛 T hs c run sp tl walk))
