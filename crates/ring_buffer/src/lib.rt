@@ -1,6 +1,6 @@
 // The ring of queued acks: records in a lent run of cells that is used round and round. Document 01, "The ring"; the Rust's utils/ring_buffer.rs.
 // The state is small and goes by value beside the lent cells, whose number is the capacity. Calls that touch no cell take the capacity alone.
-// Every decision is made by value, in functions of its own; the calls over the lent cells only carry it out.
+// Decisions are made by value, in functions of their own; the calls over the lent cells only carry it out.
 // Proved: each call says, and leaves behind in state and cells, what its definition in specs/Ring.antt gives; `slot` and `popped_by` have theirs in specs/Places.antt.
 // proofs/Laws.antt relates these to the queue's records in order.
 #![tactic(auto)]

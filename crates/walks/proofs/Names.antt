@@ -7,8 +7,8 @@ pub use lib.{ListN.length, ListN.get_or, ListN.set, ListN.get_or-eq_default, Dec
 pub use borrow.Author.Tests.{ltb-true, ltb-false}
 pub use seplogic.Ra.{Ura.Ura}
 pub use base.Fraction.{full_share}
-pub use mir.Syntax.{Symbol, Callee, Fn, Ty, Local, Body, named, erased, mut, imm, w8, w32, w64, ty_int, ty_ptr, ty_ref, ty_unit, deref, field, place, copy, local, value_local, seq, assign, call, return}
-pub use mir.Syntax.{rv_opd, aggregate, addr_of, opd_unit}
+pub use mir.Syntax.{Symbol, Callee, Fn, Ty, Local, Body, named, erased, mut, imm, w8, w32, w64, ty_int, ty_ptr, ty_ref, ty_unit, deref, field, place, copy, local, value_local, seq, assign, call}
+pub use mir.Syntax.{return, rv_opd, aggregate, addr_of, opd_unit}
 pub use mir.Val.{Val, vunit, vint, vbool, vptr}
 pub use base.{Logic.SProp, Logic.ent, Logic.sep, Logic.emp, Logic.id⊢, Logic.via, Logic.fst∗, Fml.Fml, Fml.GName, Fml.Lft, Fml.Share, Fml.ftrue, Fml.flft, Fml.fat}
 pub use prog.{Memory.Memory, Routine.Routine}
