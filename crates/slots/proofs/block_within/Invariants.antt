@@ -1,0 +1,10 @@
+-- The loop of `slots::block_within`: the flag and the test of what is left give the test of all.
+use Rattle.std.proofs.Common.{◌≡◌, ◌&&◌, ◌+◌, ◌-◌, ◌≤◌, drop}
+use Rattle.lists.specs.Within.{all_within}
+use Rattle.slots.proofs.block_within.Given as goal
+
+abbrev pub invariant-loop-i : goal.invariant-loop-i
+invariant-loop-i l = ((l.within && all_within l.slot_width (drop (l.from + l.i) l.lengths)) ≡ all_within l.slot_width (drop l.from l.lengths)) × (l.i ≤ 64)
+
+abbrev pub decreases-loop-i : goal.decreases-loop-i
+decreases-loop-i l = 64 - l.i
