@@ -14,4 +14,3 @@ pub mod Taken
 pub mod Given
 pub mod Gathered
 pub mod Accept
-pub mod Malformed

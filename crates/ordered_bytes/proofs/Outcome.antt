@@ -143,7 +143,8 @@ module _ (b : Buffer) (limit : ℕ) (out list : List ℕ) where
   pub consume_bytes_ways : ConsumingBytes
   unfolding consuming_bytes
   consume_bytes_ways =
-      by (well_formed b) (ltb (length out) (length (flatten (pieces (view b) limit)))) (ltb (length list) (length (pieces (view b) limit))) (eqb (length (pieces (view b) limit)) 0) refl refl refl refl
+      by (well_formed b) (ltb (length out) (length (flatten (pieces (view b) limit)))) (ltb (length list) (length (pieces (view b) limit)))
+      (eqb (length (pieces (view b) limit)) 0) refl refl refl refl
     where
       by : (well less fewer none : Bool) → well_formed b ≡ well → ltb (length out) (length (flatten (pieces (view b) limit))) ≡ less
           → ltb (length list) (length (pieces (view b) limit)) ≡ fewer → eqb (length (pieces (view b) limit)) 0 ≡ none → ConsumingBytes

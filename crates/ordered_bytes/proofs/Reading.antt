@@ -14,7 +14,7 @@ use lib.Seq.{paste, take-length, drop-append_seam}
 use Rattle.refusal.specs.Said.{Said, answers, refuses}
 use Rattle.lists.proofs.Part.{part_pasted}
 use Rattle.lists.proofs.Pad.{get_d_moved}
-use Rattle.ordered_bytes.specs.Receiver.{Read, place_at, accepted, moved, base, payloads, consumed, consumed_pieces}
+use Rattle.ordered_bytes.specs.Receiver.{Read, place_at, accepted, moved, payloads, consumed, consumed_pieces}
 use Rattle.ordered_bytes.specs.Buffer.{Buffer, view, width, slots, taken}
 use Rattle.ordered_bytes.specs.Calls.{accepting, consuming, consuming_bytes}
 use Rattle.ordered_bytes.proofs.WellFormed.{Good}
