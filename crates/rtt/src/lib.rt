@@ -105,6 +105,7 @@ fn after(t: RttEstimator, r: u64) -> RttEstimator
 }
 
 // A round trip that took r microseconds.
+#[tactic(auto, unfolding(crate::specs::Rtt::sampling))]
 pub fn sample(t: RttEstimator, r: u64) -> Sampled
     ensures { (sampled_says result, estimator_after t result) ≡ sampling t r }
 {
@@ -136,6 +137,7 @@ fn held_between_bounds(wait: u64) -> u64
 }
 
 // RFC 6298's RTO.
+#[tactic(auto, unfolding(crate::specs::Rtt::waiting))]
 pub fn wait_time(t: RttEstimator) -> Wait
     ensures { wait_says result ≡ waiting t }
 {
