@@ -16,7 +16,7 @@ fn main() {
         println!("cargo:rerun-if-changed={}", archive.display());
         if !archive.is_file() {
             panic!(
-                "no archive at {}: run `rt staticlib {name}` at the repository's root, or set BLUEFIN_ARCHIVE to its folder",
+                "no archive at {}: run hosts/archives, or set BLUEFIN_ARCHIVE to its folder",
                 archive.display()
             );
         }
