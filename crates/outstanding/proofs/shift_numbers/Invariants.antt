@@ -1,0 +1,10 @@
+-- Before turn i, the first i from k on stand in front, and the others as they came.
+use Rattle.std.proofs.Common.{◌≡◌, ◌-◌, ◌≤◌, length, drop}
+use Rattle.std.proofs.Math.Seq.{paste}
+use Rattle.outstanding.proofs.shift_numbers.Given as goal
+
+abbrev pub invariant-loop-i : goal.invariant-loop-i
+invariant-loop-i l = (l.i ≤ l.rest) × (length l.numbers ≡ length l.fn.numbers) × (l.numbers ≡ paste l.fn.numbers 0 (drop l.k l.fn.numbers) l.i)
+
+abbrev pub decreases-loop-i : goal.decreases-loop-i
+decreases-loop-i l = l.rest - l.i
