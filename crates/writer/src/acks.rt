@@ -1,6 +1,6 @@
 // Packing queued acks into a datagram. Ports worker/writer.rs, `consume_acks_into`; document 01, "From the queue to a datagram", its second paragraph.
 // The acks lie in a lent run of records, used as the ring of crates/ring_buffer.
-// Every decision is made by value, in covered functions; the three that take the lent records only carry it out.
+// Every decision is made by value, in functions of their own; the three that take the lent records only carry it out.
 // Proved: the call says, and leaves behind in ring, cells and output, what its definition in specs/Acks.antt gives; each inner function, what specs/AckSteps.antt says.
 // proofs/AckLaws.antt relates this to the queue's records in order.
 ghost use Rattle.std.specs.Prelude.{◌≡◌, ◌||◌};

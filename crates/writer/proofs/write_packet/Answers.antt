@@ -1,5 +1,5 @@
 -- The header is the packet's, and the payload stands right behind it. Assumes nothing.
-use Rattle.std.proofs.Common.{List, ℕ, ap, ◌∙◌, arith, take, drop}
+use Rattle.std.proofs.Common.{ap, ◌∙◌, take, drop}
 use Rattle.std.proofs.Math.Seq.{paste}
 use Rattle.lists.proofs.Paste.{length_part}
 use Rattle.header.specs.Header.{header_bytes}

@@ -1,5 +1,5 @@
 -- The steps, one after the other, come to the definition. Assumes nothing.
-use Rattle.std.proofs.Common.{◌≡◌, ℕ, subst}
+use Rattle.std.proofs.Common.{ℕ, subst}
 use Rattle.writer.specs.AckSteps.{Scanned, Drained}
 use Rattle.writer.specs.declared.acks.AckBatch.{AckBatch}
 use Rattle.writer.proofs.AckPacking.{outcome_is}
