@@ -1,15 +1,18 @@
-// A datagram as text on standard output: a line for each of its packets, or its refusal.
+// A datagram as text: a line for each of its packets, or its refusal.
 // Document 01, "A program reads one datagram from standard input and prints per packet, in decimal, type, field, number, payload length;
-// or only `refused R at C`". Proved: each header that is printed is read within the datagram, with no test beside the parser's own.
+// or only `refused R at C`". Proved: each header that is printed is read within the datagram, with no test beside the parser's own,
+// and is that of one of the datagram's packets, with that packet's payload length.
+// A read or a write that fails is answered with its error.
 #![tactic(auto)]
 
-ghost use Rattle.std.specs.Prelude.{◌+◌, ◌≤◌, length};
+ghost use Rattle.std.specs.Prelude.{◌+◌, ◌≤◌, length, IfOk};
 ghost use Rattle.packet.specs.Datagram.{Listed};
+ghost use Rattle.listing.specs.Cells.{ListsAll, IsPacket};
 
 use header::{BluefinHeader, HeaderRead};
-use libc::STDOUT_FILENO;
 use packet::Parsed;
 use refusal::Refusal;
+use std::io::{self, Read, Write};
 
 // One byte more than the longest datagram, so that a longer one is seen to be too long.
 const READ_LEN: usize = packet::READING_LIMIT + 1;
@@ -17,66 +20,86 @@ const READ_LEN: usize = packet::READING_LIMIT + 1;
 // Two numbers for each packet of 20 bytes that the longest datagram holds.
 const INDEX_LEN: usize = packet::READING_LIMIT / 20 * 2;
 
-// The datagram that the descriptor has: all its bytes, to the end.
-pub fn print_from(fd: i32) {
-    let mut bytes = [0u8; READ_LEN];
-    let n = io::read_full(fd, &mut bytes);
-    print_datagram(&bytes[..n]);
+// Reads until buf is full or the input ends. Answers how many of buf's bytes were read.
+fn read_full(input: &mut impl Read, buf: &mut [u8]) -> io::Result<usize>
+    ensures { IfOk result (λ n. n ≤ length buf.new) }
+{
+    let mut done = 0;
+    while done < buf.len() {
+        let n = input.read(&mut buf[done..])?;
+        if n == 0 {
+            break;
+        }
+        done += n;
+    }
+    Ok(done)
 }
 
-fn print_datagram(datagram: &[u8]) {
+// The datagram that the input has: all its bytes, to the end.
+pub fn print_from(input: &mut impl Read, output: &mut impl Write) -> io::Result<()> {
+    let mut bytes = [0u8; READ_LEN];
+    let n = read_full(input, &mut bytes)?;
+    print_datagram(output, &bytes[..n])
+}
+
+fn print_datagram(output: &mut impl Write, datagram: &[u8]) -> io::Result<()> {
     let mut index = [0u32; INDEX_LEN];
-    print_parsed(datagram, &mut index);
+    print_parsed(output, datagram, &mut index)
 }
 
 // Nothing is printed before the whole datagram is parsed. Refusals 10 and 11 have no cursor, and are printed with 0.
-fn print_parsed(datagram: &[u8], index: &mut [u32]) {
+fn print_parsed(output: &mut impl Write, datagram: &[u8], index: &mut [u32]) -> io::Result<()> {
     let parsed = packet::from_bytes(datagram, index);
     match parsed {
-        Parsed::Packets(n) => print_packets(datagram, index, n),
-        Parsed::Refused(r) => print_refusal(r, 0),
-        Parsed::RefusedAt(r, at) => print_refusal(r, at),
+        Parsed::Packets(n) => print_packets(output, datagram, index, n),
+        Parsed::Refused(r) => print_refusal(output, r, 0),
+        Parsed::RefusedAt(r, at) => print_refusal(output, r, at),
     }
 }
 
-fn print_packets(datagram: &[u8], index: &[u32], n: usize)
-    requires { Listed datagram.now index.now n }
+fn print_packets(
+    output: &mut impl Write,
+    datagram: &[u8],
+    index: &[u32],
+    n: usize,
+) -> io::Result<()>
+    requires within { Listed datagram.now index.now n }
+    requires all { ListsAll datagram.now index.now n }
 {
     let mut i = 0;
     while i < n {
         let cell = 2 * i;
-        print_packet(datagram, index[cell] as usize, index[cell + 1]);
+        print_packet(output, datagram, index[cell] as usize, index[cell + 1])?;
         i += 1;
     }
+    Ok(())
 }
 
 // The walk has refused unknown types, so that the header of a listed packet is read.
-fn print_packet(datagram: &[u8], offset: usize, payload_len: u32)
-    requires { offset + 20 ≤ length datagram.now }
+fn print_packet(
+    output: &mut impl Write,
+    datagram: &[u8],
+    offset: usize,
+    payload_len: u32,
+) -> io::Result<()>
+    requires within { offset + 20 ≤ length datagram.now }
+    requires packet { IsPacket datagram.now offset payload_len }
 {
     let read = BluefinHeader::deserialise_at_unchecked(datagram, offset);
     match read {
-        HeaderRead::Header(h) => print_line(h, payload_len),
-        HeaderRead::Refused(r, at) => print_refusal(r, at),
+        HeaderRead::Header(h) => print_line(output, h, payload_len),
+        HeaderRead::Refused(r, at) => print_refusal(output, r, at),
     }
 }
 
-fn print_line(h: BluefinHeader, payload_len: u32) {
-    let type_field = h.type_field;
-    io::print_decimal(STDOUT_FILENO, header::type_number(type_field) as u64);
-    io::write_all(STDOUT_FILENO, b" ");
-    io::print_decimal(STDOUT_FILENO, h.type_specific_payload as u64);
-    io::write_all(STDOUT_FILENO, b" ");
-    io::print_decimal(STDOUT_FILENO, h.packet_number);
-    io::write_all(STDOUT_FILENO, b" ");
-    io::print_decimal(STDOUT_FILENO, payload_len as u64);
-    io::write_all(STDOUT_FILENO, b"\n");
+fn print_line(output: &mut impl Write, h: BluefinHeader, payload_len: u32) -> io::Result<()> {
+    let type_number = header::type_number(h.type_field);
+    let field = h.type_specific_payload;
+    let number = h.packet_number;
+    writeln!(output, "{type_number} {field} {number} {payload_len}")
 }
 
-fn print_refusal(r: Refusal, at: usize) {
-    io::write_all(STDOUT_FILENO, b"refused ");
-    io::print_decimal(STDOUT_FILENO, refusal::number(r) as u64);
-    io::write_all(STDOUT_FILENO, b" at ");
-    io::print_decimal(STDOUT_FILENO, at as u64);
-    io::write_all(STDOUT_FILENO, b"\n");
+fn print_refusal(output: &mut impl Write, r: Refusal, at: usize) -> io::Result<()> {
+    let number = refusal::number(r);
+    writeln!(output, "refused {number} at {at}")
 }
