@@ -2,27 +2,24 @@
 // The files under data/ get every answer that a datagram can get there, at both ends of its length (data/README.md).
 #![tactic(auto)]
 
-use libc::STDOUT_FILENO;
+use std::env;
+use std::fs::File;
+use std::io::{self, BufWriter, Write};
+use std::rt::Files;
 
-fn print_case(i: usize) {
-    let mut name = io::buffer();
-    let n = os::arg(i, &mut name);
-    io::write_all(STDOUT_FILENO, &name[..n]);
-    io::write_all(STDOUT_FILENO, b"\n");
-    let fd = os::open_read(&name[..n]);
-    if fd < 0 {
-        os::fail(&name[..n]);
-        return;
+// A file that cannot be opened is named on standard error, and the next one is printed.
+fn print_case(rt: &(impl Files + Eprint), output: &mut impl Write, name: &str) -> io::Result<()> {
+    writeln!(output, "{name}")?;
+    match File::open(rt, name) {
+        Ok(mut file) => listing::print_from(&mut file, output),
+        Err(e) => eprintln!(rt; "{name}: {e}"),
     }
-    listing::print_from(fd);
-    libc::close(fd);
 }
 
-fn main() {
-    let count = os::arg_count();
-    let mut i = 1;
-    while i < count {
-        print_case(i);
-        i += 1;
+fn main(rt: HostRuntime) -> io::Result<()> {
+    let mut output = BufWriter::new(rt.alloc(), io::writer(&rt))?;
+    for name in env::args(&rt)?.skip(1) {
+        print_case(&rt, &mut output, name.as_str())?;
     }
+    output.flush()
 }
