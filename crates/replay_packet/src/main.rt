@@ -6,6 +6,7 @@
 
 use header::{BluefinHeader, HeaderRead};
 use packet::{PacketWritten, Parsed};
+use std::io::{self, BufReader, BufWriter, Read, Write};
 
 // No offset and no length: a cell that holds it was not written.
 const UNWRITTEN: u32 = 0xffff_ffff;
@@ -30,109 +31,118 @@ fn count_or_cursor(parsed: Parsed) -> u64 {
     }
 }
 
-fn print_cell(cell: u32) {
-    recorded::print_number(cell as u64);
+fn print_cell(output: &mut impl Write, cell: u32) -> io::Result<()> {
+    recorded::print_number(output, cell as u64)
 }
 
-fn print_written(index: &[u32]) {
+fn print_written(output: &mut impl Write, index: &[u32]) -> io::Result<()> {
     let mut i = 0;
     while i < index.len() {
         if index[i] == UNWRITTEN {
-            return;
+            return Ok(());
         }
-        print_cell(index[i]);
+        print_cell(output, index[i])?;
         i += 1;
     }
+    Ok(())
 }
 
-fn print_parsed(parsed: Parsed, index: &[u32]) {
-    recorded::print_number(count_or_cursor(parsed));
-    print_written(index);
+fn print_parsed(output: &mut impl Write, parsed: Parsed, index: &[u32]) -> io::Result<()> {
+    recorded::print_number(output, count_or_cursor(parsed))?;
+    print_written(output, index)
 }
 
-fn parse(datagram: &[u8]) {
+fn parse(output: &mut impl Write, datagram: &[u8]) -> io::Result<()> {
     let mut index = [UNWRITTEN; INDEX_LEN];
     let parsed = packet::from_bytes(datagram, &mut index);
-    recorded::begin_line(kind(parsed));
-    print_parsed(parsed, &index);
+    recorded::begin_line(output, kind(parsed))?;
+    print_parsed(output, parsed, &index)
 }
 
-fn parse_into(datagram: &[u8]) {
+fn parse_into(output: &mut impl Write, datagram: &[u8]) -> io::Result<()> {
     let mut index = [UNWRITTEN; INDEX_LEN];
     let parsed = packet::from_bytes_into(datagram, &mut index);
-    recorded::print_number(kind(parsed));
-    print_parsed(parsed, &index);
+    recorded::print_number(output, kind(parsed))?;
+    print_parsed(output, parsed, &index)
 }
 
-fn print_both(datagram: &[u8]) {
-    parse(datagram);
-    parse_into(datagram);
+fn print_both(output: &mut impl Write, datagram: &[u8]) -> io::Result<()> {
+    parse(output, datagram)?;
+    parse_into(output, datagram)
 }
 
-fn parse_both() {
+fn parse_both(input: &mut impl Read, output: &mut impl Write) -> io::Result<()> {
     let mut buf = [0u8; 65536];
-    let n = recorded::read_bytes(&mut buf);
-    print_both(&buf[..n]);
+    let n = recorded::read_bytes(input, &mut buf)?;
+    print_both(output, &buf[..n])
 }
 
 // Every byte of the buffer is printed: those past the packet stay at 9.
-fn print_packet(h: BluefinHeader, payload: &[u8], buf: &mut [u8]) {
+fn print_packet(
+    output: &mut impl Write,
+    h: BluefinHeader,
+    payload: &[u8],
+    buf: &mut [u8],
+) -> io::Result<()> {
     match packet::serialise_into(h, payload, buf) {
         PacketWritten::Bytes(n) => {
-            recorded::begin_line(0);
-            recorded::print_number(n as u64);
+            recorded::begin_line(output, 0)?;
+            recorded::print_number(output, n as u64)?;
         }
-        PacketWritten::Refused(r) => recorded::begin_line(refusal::number(r) as u64),
+        PacketWritten::Refused(r) => recorded::begin_line(output, refusal::number(r) as u64)?,
     }
-    recorded::print_bytes(buf);
+    recorded::print_bytes(output, buf)
 }
 
-fn serialise_into() {
-    let h = recorded_header::read_header();
+fn serialise_into(input: &mut impl Read, output: &mut impl Write) -> io::Result<()> {
+    let h = recorded_header::read_header(input)?;
     let mut buf = [9u8; 64];
-    let room = recorded::read_length(&buf);
+    let room = recorded::read_length(input, &buf)?;
     let mut payload = [0u8; 64];
-    let n = recorded::read_bytes(&mut payload);
-    print_packet(h, &payload[..n], &mut buf[..room]);
+    let n = recorded::read_bytes(input, &mut payload)?;
+    print_packet(output, h, &payload[..n], &mut buf[..room])
 }
 
-fn print_read(bytes: &[u8]) {
+fn print_read(output: &mut impl Write, bytes: &[u8]) -> io::Result<()> {
     match packet::deserialise(bytes) {
         HeaderRead::Header(h) => {
-            recorded::begin_line(0);
-            recorded_header::print_header(h);
-            print_payload(packet::payload_of(bytes));
+            recorded::begin_line(output, 0)?;
+            recorded_header::print_header(output, h)?;
+            print_payload(output, packet::payload_of(bytes))
         }
-        HeaderRead::Refused(r, _) => recorded::begin_line(refusal::number(r) as u64),
+        HeaderRead::Refused(r, _) => recorded::begin_line(output, refusal::number(r) as u64),
     }
 }
 
-fn print_payload(payload: &[u8]) {
-    recorded::print_number(payload.len() as u64);
-    recorded::print_bytes(payload);
+fn print_payload(output: &mut impl Write, payload: &[u8]) -> io::Result<()> {
+    recorded::print_number(output, payload.len() as u64)?;
+    recorded::print_bytes(output, payload)
 }
 
-fn deserialise() {
+fn deserialise(input: &mut impl Read, output: &mut impl Write) -> io::Result<()> {
     let mut buf = [0u8; 64];
-    let n = recorded::read_bytes(&mut buf);
-    print_read(&buf[..n]);
+    let n = recorded::read_bytes(input, &mut buf)?;
+    print_read(output, &buf[..n])
 }
 
-fn answer() {
-    let command = recorded::read_word();
+fn answer(input: &mut impl Read, output: &mut impl Write) -> io::Result<()> {
+    let command = recorded::read_word(input)?;
     match command {
-        1 => parse_both(),
-        2 => serialise_into(),
-        _ => deserialise(),
+        1 => parse_both(input, output)?,
+        2 => serialise_into(input, output)?,
+        _ => deserialise(input, output)?,
     }
-    recorded::end_line();
+    recorded::end_line(output)
 }
 
-fn main() {
-    let commands = recorded::read_word();
+fn main(rt: HostRuntime) -> io::Result<()> {
+    let mut input = BufReader::new(rt.alloc(), rt.reader())?;
+    let mut output = BufWriter::new(rt.alloc(), io::writer(&rt))?;
+    let commands = recorded::read_word(&mut input)?;
     let mut i = 0;
     while i < commands {
-        answer();
+        answer(&mut input, &mut output)?;
         i += 1;
     }
+    output.flush()
 }
