@@ -1,5 +1,5 @@
 // The kinds of host by number: 0 is PackLeader, 1 Client, any other some other host.
-// Proved: the conversion is that of specs/Hosts.antt.
+// Proved: the conversion is that of specs/Hello.antt.
 ghost use Rattle.std.specs.Prelude.{◌≡◌};
 ghost use Rattle.flat.specs.Hello.{host_in};
 

@@ -1,5 +1,5 @@
 // The answers of crates/ring_buffer, and of packing acks, as hosts have them.
-// Proved: each conversion is that of specs/RingAnswers.antt.
+// Proved: each conversion is that of specs/Ring.antt.
 ghost use Rattle.std.specs.Prelude.{◌≡◌};
 ghost use Rattle.ring_buffer.specs.Ring.{blank};
 ghost use Rattle.ring_buffer.specs.Says.{pushed_says, ring_pushed, popped_says, ring_popped, peeked_says, cleared_says, ring_cleared};
