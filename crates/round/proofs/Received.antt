@@ -215,7 +215,7 @@ module _ {s : ℕ} {made : List (List ℕ)} (filled : All (λ p. 0 < length p) m
   read_all [] a v = read_none v
   read_all {k} {d} (c ∷ cs) a v =
       let one = read_one c a.0 v in
-      let rest = read_all cs a.1 one.later.keeps in
+      let rest = read_all {k = one.later.gone} cs a.1 one.later.keeps in
       record {
         later = record { gone = rest.later.gone; up = omega (arith, one.later.up, rest.later.up); keeps = rest.later.keeps };
         new = one.new ++ rest.new;
