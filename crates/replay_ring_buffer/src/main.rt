@@ -4,45 +4,49 @@
 
 use refusal::Refusal;
 use ring_buffer::{Counted, RingBuffer, Tested};
+use std::io::{self, BufReader, BufWriter, Read, Write};
 
-fn refused(r: Refusal) {
-    recorded::print_number(refusal::number(r) as u64);
+fn refused(output: &mut impl Write, r: Refusal) -> io::Result<()> {
+    recorded::print_number(output, refusal::number(r) as u64)
 }
 
-fn print_tested(tested: Tested) {
+fn print_tested(output: &mut impl Write, tested: Tested) -> io::Result<()> {
     match tested {
-        Tested::Is(b) => recorded::print_bool(b),
-        Tested::Refused(r) => refused(r),
+        Tested::Is(b) => recorded::print_bool(output, b),
+        Tested::Refused(r) => refused(output, r),
     }
 }
 
-fn print_counted(counted: Counted) {
+fn print_counted(output: &mut impl Write, counted: Counted) -> io::Result<()> {
     match counted {
-        Counted::Count(n) => recorded::print_number(n as u64),
-        Counted::Refused(r) => refused(r),
+        Counted::Count(n) => recorded::print_number(output, n as u64),
+        Counted::Refused(r) => refused(output, r),
     }
 }
 
-fn answer() {
+fn answer(input: &mut impl Read, output: &mut impl Write) -> io::Result<()> {
     // the command's number: there is but one
-    recorded::read_word();
-    let capacity = recorded::read_word() as usize;
-    let head = recorded::read_word() as usize;
-    let tail = recorded::read_word() as usize;
-    let len = recorded::read_word() as usize;
+    recorded::read_word(input)?;
+    let capacity = recorded::read_word(input)? as usize;
+    let head = recorded::read_word(input)? as usize;
+    let tail = recorded::read_word(input)? as usize;
+    let len = recorded::read_word(input)? as usize;
     let ring = RingBuffer { head, tail, len };
-    recorded::begin_line(0);
-    print_counted(ring_buffer::len(ring, capacity));
-    print_tested(ring_buffer::is_empty(ring, capacity));
-    print_tested(ring_buffer::is_full(ring, capacity));
-    recorded::end_line();
+    recorded::begin_line(output, 0)?;
+    print_counted(output, ring_buffer::len(ring, capacity))?;
+    print_tested(output, ring_buffer::is_empty(ring, capacity))?;
+    print_tested(output, ring_buffer::is_full(ring, capacity))?;
+    recorded::end_line(output)
 }
 
-fn main() {
-    let commands = recorded::read_word();
+fn main(rt: HostRuntime) -> io::Result<()> {
+    let mut input = BufReader::new(rt.alloc(), rt.reader())?;
+    let mut output = BufWriter::new(rt.alloc(), io::writer(&rt))?;
+    let commands = recorded::read_word(&mut input)?;
     let mut i = 0;
     while i < commands {
-        answer();
+        answer(&mut input, &mut output)?;
         i += 1;
     }
+    output.flush()
 }
