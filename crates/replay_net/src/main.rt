@@ -5,82 +5,87 @@
 
 use header::HeaderWritten;
 use net::BluefinHost;
+use std::io::{self, BufReader, BufWriter, Read, Write};
 
-fn read_host() -> BluefinHost {
-    let word = recorded::read_word();
-    match word {
+fn read_host(input: &mut impl Read) -> io::Result<BluefinHost> {
+    let word = recorded::read_word(input)?;
+    let host = match word {
         0 => BluefinHost::PackLeader,
         1 => BluefinHost::Client,
         _ => BluefinHost::Other,
-    }
+    };
+    Ok(host)
 }
 
 fn yes(b: bool) -> u64 {
     if b { 1 } else { 0 }
 }
 
-fn hello(command: u64) {
-    let host = read_host();
-    let packet_type = recorded_header::read_type();
-    let source = recorded::read_u32();
-    let destination = recorded::read_u32();
+fn hello(input: &mut impl Read, output: &mut impl Write, command: u64) -> io::Result<()> {
+    let host = read_host(input)?;
+    let packet_type = recorded_header::read_type(input)?;
+    let source = recorded::read_u32(input)?;
+    let destination = recorded::read_u32(input)?;
     let h = net::build_empty_encrypted_packet(source, destination, 0, packet_type);
     if command == 1 {
-        recorded::begin_line(yes(net::is_hello_packet(host, h)));
+        recorded::begin_line(output, yes(net::is_hello_packet(host, h)))
     } else {
-        recorded::begin_line(yes(net::is_client_ack_packet(host, h)));
+        recorded::begin_line(output, yes(net::is_client_ack_packet(host, h)))
     }
 }
 
 // The payload's length comes first: a header alone has none.
-fn build_empty() {
-    let source = recorded::read_u32();
-    let destination = recorded::read_u32();
-    let number = recorded::read_word();
-    let packet_type = recorded_header::read_type();
+fn build_empty(input: &mut impl Read, output: &mut impl Write) -> io::Result<()> {
+    let source = recorded::read_u32(input)?;
+    let destination = recorded::read_u32(input)?;
+    let number = recorded::read_word(input)?;
+    let packet_type = recorded_header::read_type(input)?;
     let h = net::build_empty_encrypted_packet(source, destination, number, packet_type);
-    recorded::begin_line(0);
-    recorded_header::print_header(h);
+    recorded::begin_line(output, 0)?;
+    recorded_header::print_header(output, h)
 }
 
 // The bytes written, and each of them.
-fn print_written(written: HeaderWritten, buf: &[u8]) {
+fn print_written(output: &mut impl Write, written: HeaderWritten, buf: &[u8]) -> io::Result<()> {
     match written {
-        HeaderWritten::Bytes(n) => recorded::begin_line(n as u64),
-        HeaderWritten::Refused(_) => recorded::begin_line(0),
+        HeaderWritten::Bytes(n) => recorded::begin_line(output, n as u64)?,
+        HeaderWritten::Refused(_) => recorded::begin_line(output, 0)?,
     }
-    recorded::print_bytes(buf);
+    recorded::print_bytes(output, buf)
 }
 
-fn control(command: u64) {
-    let source = recorded::read_u32();
-    let destination = recorded::read_u32();
-    let number = recorded::read_word();
+fn control(input: &mut impl Read, output: &mut impl Write, command: u64) -> io::Result<()> {
+    let source = recorded::read_u32(input)?;
+    let destination = recorded::read_u32(input)?;
+    let number = recorded::read_word(input)?;
     let mut buf = [9u8; net::BLUEFIN_HEADER_SIZE_BYTES];
     if command == 4 {
         let written = net::write_fin(source, destination, number, &mut buf);
-        print_written(written, &buf);
+        print_written(output, written, &buf)
     } else {
         let written = net::write_fin_ack(source, destination, number, &mut buf);
-        print_written(written, &buf);
+        print_written(output, written, &buf)
     }
 }
 
-fn answer() {
-    let command = recorded::read_word();
+fn answer(input: &mut impl Read, output: &mut impl Write) -> io::Result<()> {
+    let command = recorded::read_word(input)?;
     match command {
-        1 | 2 => hello(command),
-        3 => build_empty(),
-        _ => control(command),
+        1 | 2 => hello(input, output, command)?,
+        3 => build_empty(input, output)?,
+        _ => control(input, output, command)?,
     }
-    recorded::end_line();
+    recorded::end_line(output)
 }
 
-fn main() {
-    let commands = recorded::read_word();
+fn main(rt: HostRuntime) -> io::Result<()> {
+    let mut input = BufReader::new(rt.alloc(), rt.reader())?;
+    let mut output = BufWriter::new(rt.alloc(), io::writer(&rt))?;
+    let commands = recorded::read_word(&mut input)?;
     let mut i = 0;
     while i < commands {
-        answer();
+        answer(&mut input, &mut output)?;
         i += 1;
     }
+    output.flush()
 }
