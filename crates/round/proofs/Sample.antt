@@ -79,9 +79,9 @@ pub record Begun : Type 0 where
   pub are_reads : All IsRead reading
 
 pub begun : Begun
-unfolding run Fairly All In data_of accepted_all accept_refusals numbered_on header_at header_bytes joined reading_limit payload_missing walk_by packets_in flat parsed packet_at listed payload_size byte_limit
-    cut numbered removal shortened sum consumes_data store.places store.size store.well_formed store.all_below store.well_formed_below store.keeping receiver.walk receiver.consumed receiver.payloads
-    receiver.numbers_fit buffer.view buffer.all_within buffer.well_formed creating accepting consuming flatten window.rising
+unfolding run Fairly All In data_of accepted_all accept_refusals numbered_on header_at header_bytes joined reading_limit payload_missing walk_by packets_in flat parsed packet_at
+    listed payload_size byte_limit cut numbered removal shortened sum consumes_data store.places store.size store.well_formed store.all_below store.well_formed_below store.keeping
+    receiver.walk receiver.consumed receiver.payloads receiver.numbers_fit buffer.view buffer.all_within buffer.well_formed creating accepting consuming flatten window.rising
 begun = record {
   new = refl;
   room = refl;
@@ -96,9 +96,9 @@ pub record Lost : Type 0 where
   pub empty : In 8 (refusals (run lost (received again reading)) (on_receiver last))
 
 pub after_loss : Lost
-unfolding run Fairly All In data_of accepted_all accept_refusals numbered_on header_at header_bytes joined reading_limit payload_missing walk_by packets_in flat parsed packet_at listed payload_size byte_limit
-    cut numbered removal shortened sum consumes_data store.places store.size store.well_formed store.all_below store.well_formed_below store.keeping receiver.walk receiver.consumed receiver.payloads
-    receiver.numbers_fit buffer.view buffer.all_within buffer.well_formed creating accepting consuming flatten window.rising
+unfolding run Fairly All In data_of accepted_all accept_refusals numbered_on header_at header_bytes joined reading_limit payload_missing walk_by packets_in flat parsed packet_at
+    listed payload_size byte_limit cut numbered removal shortened sum consumes_data store.places store.size store.well_formed store.all_below store.well_formed_below store.keeping
+    receiver.walk receiver.consumed receiver.payloads receiver.numbers_fit buffer.view buffer.all_within buffer.well_formed creating accepting consuming flatten window.rising
 after_loss = record { kept = refl; listed = refl; empty = inl refl }
 
 abbrev pub recovery : Round lost

@@ -13,7 +13,8 @@ use Rattle.refusal.specs.Said.{answers, refuses, checks}
 use Rattle.lists.specs.Rising.{rising}
 use Rattle.lists.specs.Within.{all_within}
 use Rattle.packet.specs.Sizes.{payload_size}
-use Rattle.outstanding.specs.Outstanding.{Store, fresh, store_of, places, count_of, numbers_of, lengths_of, size, bytes_of, well_formed, all_below, well_formed_below, listing, up_to, without, answering}
+use Rattle.outstanding.specs.Outstanding.{Store, fresh, store_of, places, count_of, numbers_of, lengths_of, size, bytes_of, well_formed, all_below, well_formed_below}
+use Rattle.outstanding.specs.Outstanding.{listing, up_to, without, answering}
 use Rattle.writer.specs.Packing.{Queue}
 use Rattle.writer.specs.Sending.{Sending, send_checks, unsent, sent, consumes_data}
 use Rattle.writer.specs.Empty.{SendingEmpty, empty_checks, empty_unsent, empty_sent, packs_empty}
