@@ -10,6 +10,7 @@ use ordered_bytes::{
     SlotLength, Started,
 };
 use refusal::Refusal;
+use std::io::{self, BufReader, BufWriter, Read, Write};
 
 const SLOTS: usize = 2000;
 
@@ -25,39 +26,43 @@ fn class(r: Refusal) -> u64 {
 }
 
 fn start(
+    input: &mut impl Read,
+    output: &mut impl Write,
     o: OrderedBytes,
     marks: &mut [bool],
     lengths: &mut [SlotLength],
     store: &[u8],
-) -> OrderedBytes {
-    let number = recorded::read_word();
+) -> io::Result<OrderedBytes> {
+    let number = recorded::read_word(input)?;
     match ordered_bytes::new(WIDTH, number, marks, lengths, store) {
         Created::Buffer(after) => {
-            recorded::begin_line(0);
-            after
+            recorded::begin_line(output, 0)?;
+            Ok(after)
         }
         Created::Refused(r) => {
-            recorded::begin_line(class(r));
-            o
+            recorded::begin_line(output, class(r))?;
+            Ok(o)
         }
     }
 }
 
 fn set_start(
+    input: &mut impl Read,
+    output: &mut impl Write,
     o: OrderedBytes,
     marks: &[bool],
     lengths: &[SlotLength],
     store: &[u8],
-) -> OrderedBytes {
-    let number = recorded::read_word();
+) -> io::Result<OrderedBytes> {
+    let number = recorded::read_word(input)?;
     match ordered_bytes::set_start_packet_number(o, number, marks, lengths, store) {
         Started::Buffer(after) => {
-            recorded::begin_line(0);
-            after
+            recorded::begin_line(output, 0)?;
+            Ok(after)
         }
         Started::Refused(r) => {
-            recorded::begin_line(class(r));
-            o
+            recorded::begin_line(output, class(r))?;
+            Ok(o)
         }
     }
 }
@@ -68,7 +73,7 @@ fn fill_payload(n: u64, payload: &mut [u8]) {
     let mut i = 0;
     while i < payload.len() {
         payload[i] = byte;
-        byte = std::num::wrapping_add_u8(byte, 1);
+        byte = byte.wrapping_add(1);
         i += 1;
     }
 }
@@ -90,15 +95,26 @@ fn accept_one(
     }
 }
 
-fn accept(o: OrderedBytes, marks: &mut [bool], lengths: &mut [SlotLength], store: &mut [u8]) {
-    let n = recorded::read_word();
+fn accept(
+    input: &mut impl Read,
+    output: &mut impl Write,
+    o: OrderedBytes,
+    marks: &mut [bool],
+    lengths: &mut [SlotLength],
+    store: &mut [u8],
+) -> io::Result<()> {
+    let n = recorded::read_word(input)?;
     let mut payload = [0u8; WIDTH];
-    let length = recorded::read_length(&payload);
-    recorded::begin_line(accept_one(o, n, &mut payload[..length], marks, lengths, store));
+    let length = recorded::read_length(input, &payload)?;
+    recorded::begin_line(
+        output,
+        accept_one(o, n, &mut payload[..length], marks, lengths, store),
+    )
 }
 
 // Packets of one length in the numbers' order, up to the first refusal.
 fn accept_each(
+    output: &mut impl Write,
     o: OrderedBytes,
     first: u64,
     count: u64,
@@ -106,28 +122,35 @@ fn accept_each(
     marks: &mut [bool],
     lengths: &mut [SlotLength],
     store: &mut [u8],
-) {
+) -> io::Result<()> {
     let mut i = 0;
     while i < count {
-        let n = std::num::wrapping_add_u64(first, i);
+        let n = first.wrapping_add(i);
         let refused = accept_one(o, n, payload, marks, lengths, store);
         if refused != 0 {
-            recorded::begin_line(refused);
-            recorded::print_number(i);
-            return;
+            recorded::begin_line(output, refused)?;
+            return recorded::print_number(output, i);
         }
         i += 1;
     }
-    recorded::begin_line(0);
-    recorded::print_number(count);
+    recorded::begin_line(output, 0)?;
+    recorded::print_number(output, count)
 }
 
-fn accept_run(o: OrderedBytes, marks: &mut [bool], lengths: &mut [SlotLength], store: &mut [u8]) {
-    let first = recorded::read_word();
-    let count = recorded::read_word();
+fn accept_run(
+    input: &mut impl Read,
+    output: &mut impl Write,
+    o: OrderedBytes,
+    marks: &mut [bool],
+    lengths: &mut [SlotLength],
+    store: &mut [u8],
+) -> io::Result<()> {
+    let first = recorded::read_word(input)?;
+    let count = recorded::read_word(input)?;
     let mut payload = [0u8; WIDTH];
-    let length = recorded::read_length(&payload);
+    let length = recorded::read_length(input, &payload)?;
     accept_each(
+        output,
         o,
         first,
         count,
@@ -135,21 +158,27 @@ fn accept_run(o: OrderedBytes, marks: &mut [bool], lengths: &mut [SlotLength], s
         marks,
         lengths,
         store,
-    );
+    )
 }
 
-fn peek(o: OrderedBytes, marks: &[bool], lengths: &[SlotLength], store: &[u8]) {
+fn peek(
+    output: &mut impl Write,
+    o: OrderedBytes,
+    marks: &[bool],
+    lengths: &[SlotLength],
+    store: &[u8],
+) -> io::Result<()> {
     match ordered_bytes::peek(o, marks, lengths, store) {
-        Peeked::Available => recorded::begin_line(0),
-        Peeked::Refused(r) => recorded::begin_line(class(r)),
+        Peeked::Available => recorded::begin_line(output, 0),
+        Peeked::Refused(r) => recorded::begin_line(output, class(r)),
     }
 }
 
-fn print_result(r: ConsumeResult) {
-    recorded::begin_line(0);
-    recorded::print_number(r.num_packets_consumed as u64);
-    recorded::print_number(r.base_packet_number);
-    recorded::print_number(r.bytes_consumed);
+fn print_result(output: &mut impl Write, r: ConsumeResult) -> io::Result<()> {
+    recorded::begin_line(output, 0)?;
+    recorded::print_number(output, r.num_packets_consumed as u64)?;
+    recorded::print_number(output, r.base_packet_number)?;
+    recorded::print_number(output, r.bytes_consumed)
 }
 
 // A number of at most 16 bits, as two bytes.
@@ -174,49 +203,54 @@ fn add_part(sum: u64, bytes: &[u8], start: usize, count: usize) -> u64 {
 
 // The output is as long as the length.
 fn consume_into(
+    output: &mut impl Write,
     o: OrderedBytes,
     buf: &mut [u8],
     marks: &mut [bool],
     lengths: &mut [SlotLength],
     store: &mut [u8],
-) -> OrderedBytes {
+) -> io::Result<OrderedBytes> {
     let len = buf.len();
     let consumed = ordered_bytes::consume(o, len, buf, marks, lengths, store);
     let answer = consumed.answer;
     match answer {
-        ConsumeAnswer::Given(result) => print_result(result),
-        ConsumeAnswer::Refused(r) => recorded::begin_line(class(r)),
+        ConsumeAnswer::Given(result) => print_result(output, result)?,
+        ConsumeAnswer::Refused(r) => recorded::begin_line(output, class(r))?,
     }
-    recorded::print_number(add_part(0, buf, 0, len));
-    consumed.state
+    recorded::print_number(output, add_part(0, buf, 0, len))?;
+    Ok(consumed.state)
 }
 
 fn consume(
+    input: &mut impl Read,
+    output: &mut impl Write,
     o: OrderedBytes,
     marks: &mut [bool],
     lengths: &mut [SlotLength],
     store: &mut [u8],
-) -> OrderedBytes {
+) -> io::Result<OrderedBytes> {
     let mut buf = [BEFORE; STORE_LEN];
-    let len = recorded::read_length(&buf);
-    consume_into(o, &mut buf[..len], marks, lengths, store)
+    let len = recorded::read_length(input, &buf)?;
+    consume_into(output, o, &mut buf[..len], marks, lengths, store)
 }
 
-fn print_length(length: u32) {
-    recorded::print_number(length as u64);
+fn print_length(output: &mut impl Write, length: u32) -> io::Result<()> {
+    recorded::print_number(output, length as u64)
 }
 
 // How many pieces there are, and their lengths.
-fn print_pieces(list: &[u32], pieces: usize) {
-    recorded::print_number(pieces as u64);
+fn print_pieces(output: &mut impl Write, list: &[u32], pieces: usize) -> io::Result<()> {
+    recorded::print_number(output, pieces as u64)?;
     let mut i = 0;
     while i < pieces && i < list.len() {
-        print_length(list[i]);
+        print_length(output, list[i])?;
         i += 1;
     }
+    Ok(())
 }
 
 fn consume_bytes_into(
+    output: &mut impl Write,
     o: OrderedBytes,
     limit: usize,
     buf: &mut [u8],
@@ -224,34 +258,36 @@ fn consume_bytes_into(
     marks: &mut [bool],
     lengths: &mut [SlotLength],
     store: &mut [u8],
-) -> OrderedBytes {
+) -> io::Result<OrderedBytes> {
     let consumed = ordered_bytes::consume_bytes(o, limit, buf, list, marks, lengths, store);
     let answer = consumed.answer;
     match answer {
         ConsumeBytesAnswer::Given(result, pieces) => {
-            print_result(result);
-            print_pieces(list, pieces);
-            recorded::print_number(add_part(0, buf, 0, result.bytes_consumed as usize));
+            print_result(output, result)?;
+            print_pieces(output, list, pieces)?;
+            recorded::print_number(output, add_part(0, buf, 0, result.bytes_consumed as usize))?;
         }
         ConsumeBytesAnswer::Refused(r) => {
-            recorded::begin_line(class(r));
-            print_pieces(list, 0);
-            recorded::print_number(0);
+            recorded::begin_line(output, class(r))?;
+            print_pieces(output, list, 0)?;
+            recorded::print_number(output, 0)?;
         }
     }
-    consumed.state
+    Ok(consumed.state)
 }
 
 fn consume_bytes(
+    input: &mut impl Read,
+    output: &mut impl Write,
     o: OrderedBytes,
     marks: &mut [bool],
     lengths: &mut [SlotLength],
     store: &mut [u8],
-) -> OrderedBytes {
-    let limit = recorded::read_word() as usize;
+) -> io::Result<OrderedBytes> {
+    let limit = recorded::read_word(input)? as usize;
     let mut buf = [BEFORE; STORE_LEN];
     let mut list = [0u32; SLOTS + 1];
-    consume_bytes_into(o, limit, &mut buf, &mut list, marks, lengths, store)
+    consume_bytes_into(output, o, limit, &mut buf, &mut list, marks, lengths, store)
 }
 
 // A held packet counts with its distance from the front, its length and its bytes.
@@ -272,7 +308,13 @@ fn add_slot(
 }
 
 // The sum of all held packets, and the sum of the carry-over.
-fn print_held(o: OrderedBytes, marks: &[bool; SLOTS], lengths: &[SlotLength; SLOTS], store: &[u8]) {
+fn print_held(
+    output: &mut impl Write,
+    o: OrderedBytes,
+    marks: &[bool; SLOTS],
+    lengths: &[SlotLength; SLOTS],
+    store: &[u8],
+) -> io::Result<()> {
     let mut sum = 0;
     let mut distance = 0;
     let mut slot = o.front_slot % SLOTS;
@@ -288,55 +330,61 @@ fn print_held(o: OrderedBytes, marks: &[bool; SLOTS], lengths: &[SlotLength; SLO
         slot = (slot + 1) % SLOTS;
         distance += 1;
     }
-    recorded::begin_line(0);
-    recorded::print_number(sum);
-    recorded::print_number(add_part(0, store, SLOTS * WIDTH, o.carry_len));
+    recorded::begin_line(output, 0)?;
+    recorded::print_number(output, sum)?;
+    recorded::print_number(output, add_part(0, store, SLOTS * WIDTH, o.carry_len))
 }
 
-fn print_state(o: OrderedBytes) {
-    recorded::print_number(o.front_number);
-    recorded::print_number(o.front_slot as u64);
-    recorded::print_number(o.carry_len as u64);
-    recorded::end_line();
+fn print_state(output: &mut impl Write, o: OrderedBytes) -> io::Result<()> {
+    recorded::print_number(output, o.front_number)?;
+    recorded::print_number(output, o.front_slot as u64)?;
+    recorded::print_number(output, o.carry_len as u64)?;
+    recorded::end_line(output)
 }
 
 // A command that leaves the small state as it is.
 fn answer_in_place(
+    input: &mut impl Read,
+    output: &mut impl Write,
     o: OrderedBytes,
     command: u64,
     marks: &mut [bool; SLOTS],
     lengths: &mut [SlotLength; SLOTS],
     store: &mut [u8; STORE_LEN],
-) -> OrderedBytes {
+) -> io::Result<OrderedBytes> {
     match command {
-        2 => accept(o, marks, lengths, store),
-        3 => accept_run(o, marks, lengths, store),
-        4 => peek(o, marks, lengths, store),
-        _ => print_held(o, marks, lengths, store),
+        2 => accept(input, output, o, marks, lengths, store)?,
+        3 => accept_run(input, output, o, marks, lengths, store)?,
+        4 => peek(output, o, marks, lengths, store)?,
+        _ => print_held(output, o, marks, lengths, store)?,
     }
-    o
+    Ok(o)
 }
 
 fn answer(
+    input: &mut impl Read,
+    output: &mut impl Write,
     o: OrderedBytes,
     marks: &mut [bool; SLOTS],
     lengths: &mut [SlotLength; SLOTS],
     store: &mut [u8; STORE_LEN],
-) -> OrderedBytes {
-    let command = recorded::read_word();
+) -> io::Result<OrderedBytes> {
+    let command = recorded::read_word(input)?;
     let after = match command {
-        0 => start(o, marks, lengths, store),
-        1 => set_start(o, marks, lengths, store),
-        5 => consume(o, marks, lengths, store),
-        6 => consume_bytes(o, marks, lengths, store),
-        _ => answer_in_place(o, command, marks, lengths, store),
+        0 => start(input, output, o, marks, lengths, store)?,
+        1 => set_start(input, output, o, marks, lengths, store)?,
+        5 => consume(input, output, o, marks, lengths, store)?,
+        6 => consume_bytes(input, output, o, marks, lengths, store)?,
+        _ => answer_in_place(input, output, o, command, marks, lengths, store)?,
     };
-    print_state(after);
-    after
+    print_state(output, after)?;
+    Ok(after)
 }
 
-fn main() {
-    let commands = recorded::read_word();
+fn main(rt: HostRuntime) -> io::Result<()> {
+    let mut input = BufReader::new(rt.alloc(), rt.reader())?;
+    let mut output = BufWriter::new(rt.alloc(), io::writer(&rt))?;
+    let commands = recorded::read_word(&mut input)?;
     let mut marks = [false; SLOTS];
     let mut lengths: [SlotLength; SLOTS] = [0; SLOTS];
     let mut store = [0u8; STORE_LEN];
@@ -348,7 +396,15 @@ fn main() {
     };
     let mut i = 0;
     while i < commands {
-        o = answer(o, &mut marks, &mut lengths, &mut store);
+        o = answer(
+            &mut input,
+            &mut output,
+            o,
+            &mut marks,
+            &mut lengths,
+            &mut store,
+        )?;
         i += 1;
     }
+    output.flush()
 }
