@@ -6,9 +6,10 @@
 // follow from their places.
 #![tactic(auto)]
 
-ghost use Rattle.io.specs.Counts.{IsPrefixLen};
+ghost use Rattle.std.specs.Prelude.{◌≤◌, length, IfOk};
 
 use outstanding::PLACES;
+use std::io::{self, BufReader, BufWriter, Read, Write};
 use writer::{DataAnswer, DataPacked};
 
 // The longest queue that is asked about, in bytes and in entries.
@@ -37,40 +38,41 @@ fn fill_queue(bytes: &mut [u8]) {
 }
 
 // The lengths of the queue's entries, recorded behind their number. Answers how many of the cells they are: none where the cells are too few.
-fn read_entries(lengths: &mut [u32]) -> usize
-    ensures { IsPrefixLen result lengths.new }
+fn read_entries(input: &mut impl Read, lengths: &mut [u32]) -> io::Result<usize>
+    ensures { IfOk result (λ n. n ≤ length lengths.new) }
 {
-    let n = recorded::read_word() as usize;
+    let n = recorded::read_word(input)? as usize;
     if n > lengths.len() {
-        return 0;
+        return Ok(0);
     }
     let mut i = 0;
     while i < n {
-        lengths[i] = recorded::read_u32();
+        lengths[i] = recorded::read_u32(input)?;
         i += 1;
     }
-    n
+    Ok(n)
 }
 
-fn print_packed(p: DataPacked) {
-    recorded::begin_line(0);
-    recorded::print_number(p.bytes as u64);
-    recorded::print_number(p.packets as u64);
-    recorded::print_number(p.next_packet_num);
-    recorded::print_number(p.entries_removed as u64);
-    recorded::print_number(p.bytes_cut as u64);
+fn print_packed(output: &mut impl Write, p: DataPacked) -> io::Result<()> {
+    recorded::begin_line(output, 0)?;
+    recorded::print_number(output, p.bytes as u64)?;
+    recorded::print_number(output, p.packets as u64)?;
+    recorded::print_number(output, p.next_packet_num)?;
+    recorded::print_number(output, p.entries_removed as u64)?;
+    recorded::print_number(output, p.bytes_cut as u64)
 }
 
 // Every byte of the output counts in the sum: those past the packets stay at 9. Each packing is lent an empty store: with ten places free it answers what the Rust,
 // which has no store, does.
 fn pack_into(
+    output: &mut impl Write,
     next_packet_num: u64,
     src_conn_id: u32,
     dst_conn_id: u32,
     out: &mut [u8],
     bytes: &[u8],
     lengths: &[u32],
-) {
+) -> io::Result<()> {
     let mut numbers = [0u64; PLACES];
     let mut payload_lengths = [0u32; PLACES];
     let mut packets = [0u8; STORE_LEN];
@@ -87,58 +89,63 @@ fn pack_into(
         &mut packets,
     );
     match answer {
-        DataAnswer::Packed(p, _) => print_packed(p),
-        DataAnswer::Refused(r) => recorded::begin_line(refusal::number(r) as u64),
+        DataAnswer::Packed(p, _) => print_packed(output, p)?,
+        DataAnswer::Refused(r) => recorded::begin_line(output, refusal::number(r) as u64)?,
     }
-    recorded::print_number(recorded::sum_of(out));
+    recorded::print_number(output, recorded::sum_of(out))
 }
 
-fn pack(bytes: &[u8]) {
-    let next_packet_num = recorded::read_word();
-    let src_conn_id = recorded::read_u32();
-    let dst_conn_id = recorded::read_u32();
+fn pack(input: &mut impl Read, output: &mut impl Write, bytes: &[u8]) -> io::Result<()> {
+    let next_packet_num = recorded::read_word(input)?;
+    let src_conn_id = recorded::read_u32(input)?;
+    let dst_conn_id = recorded::read_u32(input)?;
     let mut out = [BEFORE; OUT_LEN];
-    let room = recorded::read_length(&out);
-    let total = recorded::read_length(bytes);
+    let room = recorded::read_length(input, &out)?;
+    let total = recorded::read_length(input, bytes)?;
     let mut lengths = [0u32; MOST_ENTRIES];
-    let entries = read_entries(&mut lengths);
+    let entries = read_entries(input, &mut lengths)?;
     pack_into(
+        output,
         next_packet_num,
         src_conn_id,
         dst_conn_id,
         &mut out[..room],
         &bytes[..total],
         &lengths[..entries],
-    );
+    )
 }
 
-fn count() {
+fn count(input: &mut impl Read, output: &mut impl Write) -> io::Result<()> {
     let mut buf = [0u8; 512];
-    let n = recorded::read_bytes(&mut buf);
-    recorded::begin_line(0);
-    recorded::print_number(writer::payload_bytes_in_datagram(&buf[..n]) as u64);
+    let n = recorded::read_bytes(input, &mut buf)?;
+    recorded::begin_line(output, 0)?;
+    recorded::print_number(output, writer::payload_bytes_in_datagram(&buf[..n]) as u64)
 }
 
-fn answer(bytes: &[u8]) {
-    let command = recorded::read_word();
+fn answer(input: &mut impl Read, output: &mut impl Write, bytes: &[u8]) -> io::Result<()> {
+    let command = recorded::read_word(input)?;
     match command {
-        1 => pack(bytes),
-        _ => count(),
+        1 => pack(input, output, bytes)?,
+        _ => count(input, output)?,
     }
-    recorded::end_line();
+    recorded::end_line(output)
 }
 
-fn answer_all(bytes: &[u8]) {
-    let commands = recorded::read_word();
+fn answer_all(input: &mut impl Read, output: &mut impl Write, bytes: &[u8]) -> io::Result<()> {
+    let commands = recorded::read_word(input)?;
     let mut i = 0;
     while i < commands {
-        answer(bytes);
+        answer(input, output, bytes)?;
         i += 1;
     }
+    Ok(())
 }
 
-fn main() {
+fn main(rt: HostRuntime) -> io::Result<()> {
+    let mut input = BufReader::new(rt.alloc(), rt.reader())?;
+    let mut output = BufWriter::new(rt.alloc(), io::writer(&rt))?;
     let mut bytes = [0u8; QUEUE_LEN];
     fill_queue(&mut bytes);
-    answer_all(&bytes);
+    answer_all(&mut input, &mut output, &bytes)?;
+    output.flush()
 }
