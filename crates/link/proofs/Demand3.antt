@@ -16,7 +16,8 @@ use Rattle.ordered_bytes.specs.declared.OrderedBytes.{OrderedBytes}
 use Rattle.ordered_bytes.proofs.Reading.{Dry, weight}
 use Rattle.window.specs.Window.{member}
 use Rattle.rtt.proofs.Laws.{fresh_well_formed}
-use Rattle.link.specs.Demand3.{Link, Memory, Call, on_sender, on_receiver, on_window, on_trips, consume_window, call_window, hears_of, fresh, step, run, refusals, Ack, In, MadeEarlier, Fair, Fairly, Premises}
+use Rattle.link.specs.Demand3.{Link, Memory, Call, on_sender, on_receiver, on_window, on_trips, consume_window, call_window, hears_of, fresh, step, run, refusals}
+use Rattle.link.specs.Demand3.{Ack, In, MadeEarlier, Fair, Fairly, Premises}
 use Rattle.link.specs.Demand3.{Start, Made, ToEmpty, Made_in, Delivers, Acknowledges, Demand3}
 use Rattle.link.proofs.Invariant.{Below, Keeps}
 use Rattle.link.proofs.All.{all_in, in_neither}

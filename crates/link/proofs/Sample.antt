@@ -225,7 +225,8 @@ pub unreserved : {A : Type 0} → false ≡ true → A
 unreserved e = absurd (false≢true e)
 
 pub premised : Premised
-unfolding run trace Fairly All In data_of accepted_all accept_refusals Accepted numbered_on header_at header_bytes joined reading_limit payload_missing walk_by packets_of flat parsed packet_at listed payload_size byte_limit
+unfolding run trace Fairly All In data_of accepted_all accept_refusals Accepted numbered_on header_at header_bytes joined reading_limit payload_missing
+    walk_by packets_of flat parsed packet_at listed payload_size byte_limit
     cut numbered removal shortened sum consumes_data store.places store.size store.well_formed store.all_below store.well_formed_below store.keeping store.up_to store.without store.answering
     store.listing receiver.walk receiver.consumed receiver.payloads receiver.numbers_fit buffer.view buffer.all_within buffer.well_formed
     creating accepting peeking consuming consuming_bytes flatten window.member window.rising window.all_holdable window.well_formed window.place window.numbers
@@ -253,7 +254,8 @@ premised = record {
 }
 
 pub refusing : Refusing
-unfolding run trace Fairly All In data_of accepted_all accept_refusals Accepted numbered_on header_at header_bytes joined reading_limit payload_missing walk_by packets_of flat parsed packet_at listed payload_size byte_limit
+unfolding run trace Fairly All In data_of accepted_all accept_refusals Accepted numbered_on header_at header_bytes joined reading_limit payload_missing
+    walk_by packets_of flat parsed packet_at listed payload_size byte_limit
     cut numbered removal shortened sum consumes_data store.places store.size store.well_formed store.all_below store.well_formed_below store.keeping store.up_to store.without store.answering
     store.listing receiver.walk receiver.consumed receiver.payloads receiver.numbers_fit buffer.view buffer.all_within buffer.well_formed
     creating accepting peeking consuming consuming_bytes flatten window.member window.rising window.all_holdable window.well_formed window.place window.numbers
@@ -265,7 +267,8 @@ refusing = record {
 }
 
 pub holds : Holds
-unfolding run trace Fairly All In data_of accepted_all accept_refusals Accepted numbered_on header_at header_bytes joined reading_limit payload_missing walk_by packets_of flat parsed packet_at listed payload_size byte_limit
+unfolding run trace Fairly All In data_of accepted_all accept_refusals Accepted numbered_on header_at header_bytes joined reading_limit payload_missing
+    walk_by packets_of flat parsed packet_at listed payload_size byte_limit
     cut numbered removal shortened sum consumes_data store.places store.size store.well_formed store.all_below store.well_formed_below store.keeping store.up_to store.without store.answering
     store.listing receiver.walk receiver.consumed receiver.payloads receiver.numbers_fit buffer.view buffer.all_within buffer.well_formed
     creating accepting peeking consuming consuming_bytes flatten window.member window.rising window.all_holdable window.well_formed window.place window.numbers
@@ -291,7 +294,8 @@ holds = record {
 }
 
 pub packs_a : PacksA
-unfolding run trace Fairly All In data_of accepted_all accept_refusals Accepted numbered_on header_at header_bytes joined reading_limit payload_missing walk_by packets_of flat parsed packet_at listed payload_size byte_limit
+unfolding run trace Fairly All In data_of accepted_all accept_refusals Accepted numbered_on header_at header_bytes joined reading_limit payload_missing
+    walk_by packets_of flat parsed packet_at listed payload_size byte_limit
     cut numbered removal shortened sum consumes_data store.places store.size store.well_formed store.all_below store.well_formed_below store.keeping store.up_to store.without store.answering
     store.listing receiver.walk receiver.consumed receiver.payloads receiver.numbers_fit buffer.view buffer.all_within buffer.well_formed
     creating accepting peeking consuming consuming_bytes flatten window.member window.rising window.all_holdable window.well_formed window.place window.numbers

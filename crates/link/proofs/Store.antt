@@ -19,7 +19,8 @@ use Rattle.lists.proofs.Order.{either}
 use Rattle.packet.specs.Packet.{Packet, packet_bytes, joined}
 use Rattle.outstanding.specs.Outstanding.{places, Store, count_of, numbers_of, lengths_of, size, all_below, roomy, number_in, length_in, keeping, listing, up_to, answering}
 use Rattle.outstanding.specs.Steps.{counting}
-use Rattle.outstanding.proofs.Laws.{Good, good_is, below_good, below_is, roomy_is, next_up, size-joined, joined-drop, Keepable, keeps, up_to-counting, drops, answering_is, answered_few, listing_is, listing_short}
+use Rattle.outstanding.proofs.Laws.{Good, good_is, below_good, below_is, roomy_is, next_up, size-joined, joined-drop, Keepable, keeps, up_to-counting, drops}
+use Rattle.outstanding.proofs.Laws.{answering_is, answered_few, listing_is, listing_short}
 use Rattle.window.specs.Window.{Outcome, consume}
 use Rattle.window.proofs.Calls as calls
 use Rattle.link.specs.Demand3.{SenderSide, WindowSide, WindowCall, insert, insert_run, consume_window, Link, Memory, Called, empty_store, with_kept, answered_by, hears_of, expects_after}
