@@ -1,5 +1,5 @@
 // The queue of acks to send, a ring over lent records, and its packing: utils/ring_buffer.rs and the acks of worker/writer.rs for hosts.
-// Each call hands the lent records on to the proved call; its answer is written flat by value, in covered functions.
+// Each call hands the lent records on to the proved call; its answer is written flat by value, in crates/flat.
 // Proved: what each call answers and leaves is the flat form of the definition in crates/ring_buffer or crates/writer.
 ghost use Rattle.std.specs.Prelude.{◌≡◌};
 ghost use Rattle.ring_buffer.specs.Ring.{fresh, push_back, push_front, pop_front, front, clear};
