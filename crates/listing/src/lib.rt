@@ -1,11 +1,13 @@
 // A datagram as text: a line for each of its packets, or its refusal.
 // Document 01, "A program reads one datagram from standard input and prints per packet, in decimal, type, field, number, payload length;
-// or only `refused R at C`". Proved: each header that is printed is read within the datagram, with no test beside the parser's own.
+// or only `refused R at C`". Proved: each header that is printed is read within the datagram, with no test beside the parser's own,
+// and is that of one of the datagram's packets, with that packet's payload length.
 // A read or a write that fails is answered with its error.
 #![tactic(auto)]
 
-ghost use Rattle.std.specs.Prelude.{◌≡◌, ◌+◌, ◌*◌, ◌<◌, ◌≤◌, length, slice_index, IfOk};
+ghost use Rattle.std.specs.Prelude.{◌+◌, ◌≤◌, length, IfOk};
 ghost use Rattle.packet.specs.Datagram.{Listed};
+ghost use Rattle.listing.specs.Cells.{ListsAll, IsPacket};
 
 use header::{BluefinHeader, HeaderRead};
 use packet::Parsed;
@@ -61,25 +63,16 @@ fn print_packets(
     index: &[u32],
     n: usize,
 ) -> io::Result<()>
-    requires { Listed datagram.now index.now n }
+    requires within { Listed datagram.now index.now n }
+    requires all { ListsAll datagram.now index.now n }
 {
     let mut i = 0;
     while i < n {
-        let (offset, payload_len) = cell_at(index, i);
-        print_packet(output, datagram, offset, payload_len)?;
+        let cell = 2 * i;
+        print_packet(output, datagram, index[cell] as usize, index[cell + 1])?;
         i += 1;
     }
     Ok(())
-}
-
-// Where the i-th packet's header stands, and how long its payload is.
-fn cell_at(index: &[u32], i: usize) -> (usize, u32)
-    requires { 2 * i + 1 < length index.now }
-    ensures offset { result.0 ≡ slice_index index.now (2 * i) }
-    ensures payload_len { result.1 ≡ slice_index index.now (2 * i + 1) }
-{
-    let cell = 2 * i;
-    (index[cell] as usize, index[cell + 1])
 }
 
 // The walk has refused unknown types, so that the header of a listed packet is read.
@@ -89,7 +82,8 @@ fn print_packet(
     offset: usize,
     payload_len: u32,
 ) -> io::Result<()>
-    requires { offset + 20 ≤ length datagram.now }
+    requires within { offset + 20 ≤ length datagram.now }
+    requires packet { IsPacket datagram.now offset payload_len }
 {
     let read = BluefinHeader::deserialise_at_unchecked(datagram, offset);
     match read {

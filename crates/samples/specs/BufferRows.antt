@@ -7,7 +7,7 @@ use Rattle.ordered_bytes.specs.Buffer.{Buffer}
 use Rattle.ordered_bytes.specs.Calls.{creating, starting, accepting, peeking}
 use Rattle.samples.specs.Inputs.{lent}
 
--- W, the front slot, the front number, the carry_over length
+-- W, the front slot, the front number, the carry-over length
 abbrev pub state_of : ℕ → ℕ → ℕ → ℕ → OrderedBytes
 state_of w slot number carry = record { slot_width = w; front_slot = slot; front_number = number; carry_len = carry }
 
@@ -15,14 +15,14 @@ state_of w slot number carry = record { slot_width = w; front_slot = slot; front
 abbrev pub buffer_of : OrderedBytes → List Bool → List ℕ → List ℕ → Buffer
 buffer_of state marks lengths store = record { state = state; marks = marks; lengths = lengths; store = store }
 
--- two slots of three bytes, which hold nothing from 100 on; the third three bytes of the store are for carry_over
+-- two slots of three bytes, which hold nothing from 100 on; the third three bytes of the store are for carry-over
 abbrev pub nothing : Buffer
 nothing = buffer_of (state_of 3 0 100 0) (false ∷ false ∷ []) (0 ∷ 0 ∷ []) (lent 9)
 
 -- ---- refusal 12
 
--- "N, W, store, front slot, slot or carry_over length out of range": no slot, 2,001 slots, W of 0 and of 65,536, a store one byte short and one too long, lengths for another
--- number of slots, a front slot of N, a carry_over of W + 1, a slot's length of W + 1, held or not. "a held number above 2^64 − 2": at the front, behind it, and round the end.
+-- "N, W, store, front slot, slot or carry-over length out of range": no slot, 2,001 slots, W of 0 and of 65,536, a store one byte short and one too long, lengths for another
+-- number of slots, a front slot of N, a carry-over of W + 1, a slot's length of W + 1, held or not. "a held number above 2^64 − 2": at the front, behind it, and round the end.
 abbrev pub malformed : List Buffer
 malformed =
     buffer_of (state_of 3 0 100 0) [] [] (lent 3)
@@ -67,7 +67,7 @@ pub record NewRows : Type 0 where
 
 -- ---- `set_start_packet_number`
 pub record StartRows : Type 0 where
-  -- "`set_start_packet_number` with a packet held is 13": at the front, behind it, or an empty one; carry_over alone is no packet held
+  -- "`set_start_packet_number` with a packet held is 13": at the front, behind it, or an empty one; carry-over alone is no packet held
   pub nothing_held : starting nothing 7 ≡ answers (state_of 3 0 7 0)
   pub last_number : starting nothing (2 ^ 64 - 1) ≡ answers (state_of 3 0 (2 ^ 64 - 1) 0)
   pub carry_over : starting (buffer_of (state_of 3 1 100 2) (false ∷ false ∷ []) (0 ∷ 0 ∷ []) (lent 9)) 7 ≡ answers (state_of 3 1 7 2)
@@ -93,7 +93,7 @@ Acks b n payload ack = accepting b n payload ≡ record { said = refuses 5; ack 
 abbrev pub nothing_from : ℕ → Buffer
 nothing_from number = buffer_of (state_of 3 0 number 0) (false ∷ false ∷ []) (0 ∷ 0 ∷ []) (lent 9)
 
--- 5 and 6 held at 100; and nothing held, with slot 1 at the front and a carry_over
+-- 5 and 6 held at 100; and nothing held, with slot 1 at the front and a carry-over
 abbrev pub front_held : Buffer
 front_held = buffer_of (state_of 3 0 100 0) (true ∷ false ∷ []) (2 ∷ 0 ∷ []) (5 ∷ 6 ∷ 99 ∷ 99 ∷ 99 ∷ 99 ∷ 99 ∷ 99 ∷ 99 ∷ [])
 
@@ -139,7 +139,7 @@ pub record AcceptRows : Type 0 where
 
 -- ---- `peek`
 pub record PeekRows : Type 0 where
-  -- "yes if carry_over or the front slot is held, else 8": an empty packet is held, one behind a hole is not at the front
+  -- "yes if carry-over or the front slot is held, else 8": an empty packet is held, one behind a hole is not at the front
   pub carry_over : peeking (buffer_of (state_of 3 0 100 1) (false ∷ false ∷ []) (0 ∷ 0 ∷ []) (lent 9)) ≡ answers tt
   pub front_held_row : peeking front_held ≡ answers tt
   pub empty_held : peeking (buffer_of (state_of 3 0 100 0) (true ∷ false ∷ []) (0 ∷ 0 ∷ []) (lent 9)) ≡ answers tt
@@ -147,7 +147,7 @@ pub record PeekRows : Type 0 where
   pub nothing_held : peeking nothing ≡ refuses 8
   pub behind_a_hole : peeking (buffer_of (state_of 3 0 100 0) (false ∷ true ∷ []) (0 ∷ 2 ∷ []) (lent 9)) ≡ refuses 8
   pub behind_a_hole_round_the_end : peeking (buffer_of (state_of 3 1 100 0) (true ∷ false ∷ []) (2 ∷ 0 ∷ []) (lent 9)) ≡ refuses 8
-  -- 12, and the bounds themselves: a carry_over of W, a slot's length of W, the last slot at the front, 2^64 − 2 held, nothing held from 2^64 − 1 on
+  -- 12, and the bounds themselves: a carry-over of W, a slot's length of W, the last slot at the front, 2^64 − 2 held, nothing held from 2^64 − 1 on
   pub each_12 : map peeking malformed ≡ replicate 15 (refuses 12)
   pub carry_over_3 : peeking (buffer_of (state_of 3 1 100 3) (false ∷ false ∷ []) (3 ∷ 3 ∷ []) (lent 9)) ≡ answers tt
   pub last_number_held : peeking (buffer_of (state_of 3 0 (2 ^ 64 - 2) 0) (true ∷ false ∷ []) (3 ∷ 0 ∷ []) (lent 9)) ≡ answers tt

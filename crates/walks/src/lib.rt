@@ -1,2 +1,2 @@
-// What a proof by hand of a function shares with every other: see proofs/. There is no code here.
+// What the proofs by hand of functions shared, when there were such: see proofs/. There is no code here.
 #![tactic(auto)]
