@@ -1,20 +1,15 @@
--- A header from its parts: the four runs that writing puts one behind the other, and the fields that reading takes.
+-- A header from its parts: the four runs that writing puts one behind the other.
 -- Assumes nothing.
-use Prim.Native.Nat.{ℕ, ◌+◌, ◌/◌, ◌≤◌}
+use Prim.Native.Nat.{ℕ, ◌+◌, ◌≤◌}
 use mathlib.Core.Path.{◌≡◌, ap, ap₂, ◌∙◌}
 use mathlib.Core.List.{List, ◌++◌}
-use mathlib.Core.Bool.{true}
 use native.Mathlib.Omega.{arith}
-use lib.ListN.{length, get_or, length-append}
+use lib.ListN.{length, length-append}
 use lib.Seq.{paste}
-use Rattle.refusal.specs.Said.{answers}
 use Rattle.lists.proofs.Paste.{paste_behind}
-use Rattle.parts.specs.BigEndian.{bytes_of, number_at}
-use Rattle.header.specs.declared.PacketType.{PacketType}
-use Rattle.header.specs.declared.BluefinSecurityFields.{BluefinSecurityFields}
+use Rattle.parts.specs.BigEndian.{bytes_of}
 use Rattle.header.specs.declared.BluefinHeader.{BluefinHeader}
-use Rattle.header.specs.Types.{type_of, row_of}
-use Rattle.header.specs.Header.{leading_bytes, header_bytes, type_at, field_at, packet_number_at, security_of, header_at, deserialises_at}
+use Rattle.header.specs.Header.{leading_bytes, header_bytes}
 
 module _ (h : BluefinHeader) (d : List ℕ) (at : ℕ) {w a b n d₁ d₂ d₃ d₄ : List ℕ} where
   pub written : at + 20 ≤ length d
@@ -39,25 +34,3 @@ module _ (h : BluefinHeader) (d : List ℕ) (at : ℕ) {w a b n d₁ d₂ d₃ d
       let r₄ : d₄ ≡ paste d at (w ++ a ++ b ++ n) (length (w ++ a ++ b ++ n)) =
       q₄ ∙ ap (λ (x : List ℕ). paste x (at + 12) n (length n)) r₃ ∙ paste_behind d (w ++ a ++ b) n at (at + 12) (omega arith) (omega arith) in
       r₄ ∙ rw (qw, qa, qb, qn)
-
-module _ (s : List ℕ) (at : ℕ) {type : PacketType} {field source destination number : ℕ} {security : BluefinSecurityFields} where
-  pub found : (row_of (type_at s at)).known ≡ true
-      → type ≡ type_of (type_at s at)
-      → field ≡ field_at s at
-      → security ≡ security_of (get_or s (at + 3) 0)
-      → source ≡ number_at s (at + 4) 4
-      → destination ≡ number_at s (at + 8) 4
-      → number ≡ packet_number_at s at
-      → answers
-      (record {
-        version = get_or s at 0 / 16;
-        type_field = type;
-        type_specific_payload = field;
-        security_fields = security;
-        source_connection_id = source;
-        destination_connection_id = destination;
-        packet_number = number;
-      })
-      ≡ deserialises_at s at
-  unfolding header_at
-  found known t f c a b n = simp (known, t, f, c, a, b, n)

@@ -35,13 +35,3 @@ number_type (suc (suc (suc zero))) = refl
 number_type (suc (suc (suc (suc zero)))) = refl
 number_type (suc (suc (suc (suc (suc zero))))) = refl
 number_type (suc (suc (suc (suc (suc (suc n)))))) = omega arith
-
--- a known number that is none of the first six
-pub type_last : (n : ℕ) → (n ≡ 0 → ⊥) → (n ≡ 1 → ⊥) → (n ≡ 2 → ⊥) → (n ≡ 3 → ⊥) → (n ≡ 4 → ⊥) → (n ≡ 5 → ⊥) → FinAck ≡ type_of n
-type_last zero a b c d e f = absurd (a refl)
-type_last (suc zero) a b c d e f = absurd (b refl)
-type_last (suc (suc zero)) a b c d e f = absurd (c refl)
-type_last (suc (suc (suc zero))) a b c d e f = absurd (d refl)
-type_last (suc (suc (suc (suc zero)))) a b c d e f = absurd (e refl)
-type_last (suc (suc (suc (suc (suc zero))))) a b c d e f = absurd (f refl)
-type_last (suc (suc (suc (suc (suc (suc n)))))) a b c d e f = refl

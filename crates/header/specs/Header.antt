@@ -2,20 +2,11 @@
 -- Carries document 01, "The header, last leaf".
 use Rattle.std.specs.Prelude.{ℕ, ◌+◌, ◌*◌, ◌/◌, ◌%◌, Bool, false, cond, not, ◌||◌, List, [], ◌∷◌, ◌++◌, length, get_or, ltb, leb, eqb}
 use Rattle.std.proofs.Math.Seq.{paste}
-use Rattle.refusal.specs.Refusal.{number_of}
 use Rattle.refusal.specs.Said.{Said, answers, refuses, refuses_at, checks}
 use Rattle.parts.specs.BigEndian.{bytes_of, number_at}
 use Rattle.header.specs.declared.PacketType.{PacketType}
 use Rattle.header.specs.declared.BluefinSecurityFields.{BluefinSecurityFields}
 use Rattle.header.specs.declared.BluefinHeader.{BluefinHeader}
-use Rattle.header.specs.declared.SecurityWritten.{SecurityWritten}
-use Rattle.header.specs.declared.SecurityWritten.TheVariants as security-written
-use Rattle.header.specs.declared.SecurityRead.{SecurityRead}
-use Rattle.header.specs.declared.SecurityRead.TheVariants as security_read
-use Rattle.header.specs.declared.HeaderWritten.{HeaderWritten}
-use Rattle.header.specs.declared.HeaderWritten.TheVariants as header-written
-use Rattle.header.specs.declared.HeaderRead.{HeaderRead}
-use Rattle.header.specs.declared.HeaderRead.TheVariants as header_read
 use Rattle.header.specs.Types.{type_number, type_of, row_of}
 
 -- "security byte (bit 7 encrypted, low 7 mask)"
@@ -94,24 +85,6 @@ with_number h n =
 abbrev pub plain_header : ℕ → ℕ → PacketType → ℕ → ℕ → BluefinHeader
 plain_header source destination type field number =
     with_number (header_of source destination type field (record { header_encrypted = false; header_protection_mask = 0 })) number
-
--- What the answers say.
-
-abbrev pub security_written_says : SecurityWritten → Said ℕ
-security_written_says (security-written.Byte b) = answers b
-security_written_says (security-written.Refused r) = refuses (number_of r)
-
-abbrev pub security_read_says : SecurityRead → Said BluefinSecurityFields
-security_read_says (security_read.Fields f) = answers f
-security_read_says (security_read.Refused r at) = refuses_at (number_of r) at
-
-abbrev pub header_written_says : HeaderWritten → Said ℕ
-header_written_says (header-written.Bytes n) = answers n
-header_written_says (header-written.Refused r) = refuses (number_of r)
-
-abbrev pub header_read_says : HeaderRead → Said BluefinHeader
-header_read_says (header_read.Header h) = answers h
-header_read_says (header_read.Refused r at) = refuses_at (number_of r) at
 
 -- What the calls say, and leave.
 

@@ -4,13 +4,11 @@
 #![tactic(auto)]
 
 ghost use Rattle.std.specs.Prelude.{◌≡◌, List, ℕ};
-ghost use Rattle.refusal.specs.Said.{Said};
-ghost use Rattle.header.specs.Types.{type_number};
-ghost use Rattle.header.specs.Header.{header_written_says};
-ghost use Rattle.net.specs.Hello.{has_type, is_hello, is_client_ack};
+ghost use Rattle.refusal.specs.Said.{Said, says};
+ghost use Rattle.net.specs.Hello.{is_hello, is_client_ack};
 ghost use Rattle.net.specs.Control.{header_alone, writes_control, writes_fin, writes_fin_ack};
 
-use header::{BluefinHeader, BluefinSecurityFields, HeaderWritten, PacketType};
+use header::{BluefinHeader, BluefinSecurityFields, PacketType};
 use refusal::Refusal;
 
 // net/mod.rs, the sizes of document 01: a header of 20 bytes, payloads of up to 1,500, ten packets in a datagram, and so up to 15,200 bytes.
@@ -24,19 +22,18 @@ pub const MAX_BLUEFIN_BYTES_IN_UDP_DATAGRAM: usize = MAX_BLUEFIN_PACKETS_IN_UDP_
     * (BLUEFIN_HEADER_SIZE_BYTES + MAX_BLUEFIN_PAYLOAD_SIZE_BYTES);
 
 // The side of a connection. The Rust compares its own with the first two only: `Other` stands for every further one.
-#[derive(Clone, Copy)]
+#[derive(Clone, Copy, Debug, PartialEq, Eq)]
 pub enum BluefinHost {
     PackLeader,
     Client,
     Other,
 }
 
-// The Rust's comparison of two packet types, by their numbers.
-fn has_type(header: BluefinHeader, packet_type: PacketType) -> bool
-    ensures { result ≡ has_type header (type_number packet_type) }
-{
-    let type_field = header.type_field;
-    header::type_number(type_field) == header::type_number(packet_type)
+// The two ends of a connection, as the headers of one side name them.
+#[derive(Clone, Copy, Debug, PartialEq, Eq)]
+pub struct ConnectionIds {
+    pub source: u32,
+    pub destination: u32,
 }
 
 // net/mod.rs, `is_hello_packet`.
@@ -46,10 +43,10 @@ pub fn is_hello_packet(host_type: BluefinHost, header: BluefinHeader) -> bool
     let other_id = header.source_connection_id;
     let this_id = header.destination_connection_id;
     match host_type {
-        BluefinHost::PackLeader => has_type(header, PacketType::UnencryptedClientHello)
+        BluefinHost::PackLeader => header.type_field == PacketType::UnencryptedClientHello
             && other_id != 0
             && this_id == 0,
-        BluefinHost::Client => has_type(header, PacketType::UnencryptedServerHello)
+        BluefinHost::Client => header.type_field == PacketType::UnencryptedServerHello
             && other_id != 0
             && this_id != 0,
         BluefinHost::Other => true,
@@ -63,7 +60,7 @@ pub fn is_client_ack_packet(host_type: BluefinHost, header: BluefinHeader) -> bo
     let other_id = header.source_connection_id;
     let this_id = header.destination_connection_id;
     match host_type {
-        BluefinHost::PackLeader => has_type(header, PacketType::ClientAck)
+        BluefinHost::PackLeader => header.type_field == PacketType::ClientAck
             && other_id != 0
             && this_id != 0,
         BluefinHost::Client => false,
@@ -73,68 +70,48 @@ pub fn is_client_ack_packet(host_type: BluefinHost, header: BluefinHeader) -> bo
 
 // net/mod.rs, `build_empty_encrypted_packet`: for all its name, the packet is marked as not encrypted.
 pub fn build_empty_encrypted_packet(
-    src_conn_id: u32,
-    dst_conn_id: u32,
+    ids: ConnectionIds,
     packet_number: u64,
     packet_type: PacketType,
 ) -> BluefinHeader
-    ensures { result ≡ header_alone packet_type src_conn_id dst_conn_id packet_number }
+    ensures { result ≡ header_alone packet_type ids.source ids.destination packet_number }
 {
     let security_fields = BluefinSecurityFields::new(false, 0);
-    let header = BluefinHeader::new(src_conn_id, dst_conn_id, packet_type, 0, security_fields);
-    header.with_packet_number(packet_number)
+    BluefinHeader::new(
+        ids.source,
+        ids.destination,
+        packet_type,
+        0,
+        security_fields,
+    ).with_packet_number(packet_number)
 }
 
 // worker/writer.rs, `send_control_packet`, without its socket. Version and mask are 0, so that nothing but the room can be wrong.
 fn write_control(
     packet_type: PacketType,
-    src_conn_id: u32,
-    dst_conn_id: u32,
+    ids: ConnectionIds,
     packet_number: u64,
     buf: &mut [u8],
-) -> HeaderWritten
-    ensures { ◌≡◌ {A = Said ℕ × List ℕ} (header_written_says result, buf.new) (writes_control packet_type src_conn_id dst_conn_id packet_number buf.old) }
+) -> Result<usize, Refusal>
+    ensures { ◌≡◌ {A = Said ℕ × List ℕ} (says (λ n. n) result, buf.new) (writes_control packet_type ids.source ids.destination packet_number buf.old) }
 {
-    if buf.len() < BLUEFIN_HEADER_SIZE_BYTES {
-        return HeaderWritten::Refused(Refusal::BufferShort);
-    }
-    let header = build_empty_encrypted_packet(src_conn_id, dst_conn_id, packet_number, packet_type);
-    header.serialise_at_unchecked(buf, 0);
-    HeaderWritten::Bytes(BLUEFIN_HEADER_SIZE_BYTES)
+    build_empty_encrypted_packet(ids, packet_number, packet_type).serialise_into(buf)
 }
 
 // worker/writer.rs, `send_fin`, without its socket.
-pub fn write_fin(
-    src_conn_id: u32,
-    dst_conn_id: u32,
-    packet_number: u64,
-    buf: &mut [u8],
-) -> HeaderWritten
-    ensures { ◌≡◌ {A = Said ℕ × List ℕ} (header_written_says result, buf.new) (writes_fin src_conn_id dst_conn_id packet_number buf.old) }
+pub fn write_fin(ids: ConnectionIds, packet_number: u64, buf: &mut [u8]) -> Result<usize, Refusal>
+    ensures { ◌≡◌ {A = Said ℕ × List ℕ} (says (λ n. n) result, buf.new) (writes_fin ids.source ids.destination packet_number buf.old) }
 {
-    write_control(
-        PacketType::Fin,
-        src_conn_id,
-        dst_conn_id,
-        packet_number,
-        buf,
-    )
+    write_control(PacketType::Fin, ids, packet_number, buf)
 }
 
 // worker/writer.rs, `send_fin_ack`, without its socket: the number is that of the FIN which it answers.
 pub fn write_fin_ack(
-    src_conn_id: u32,
-    dst_conn_id: u32,
+    ids: ConnectionIds,
     packet_number: u64,
     buf: &mut [u8],
-) -> HeaderWritten
-    ensures { ◌≡◌ {A = Said ℕ × List ℕ} (header_written_says result, buf.new) (writes_fin_ack src_conn_id dst_conn_id packet_number buf.old) }
+) -> Result<usize, Refusal>
+    ensures { ◌≡◌ {A = Said ℕ × List ℕ} (says (λ n. n) result, buf.new) (writes_fin_ack ids.source ids.destination packet_number buf.old) }
 {
-    write_control(
-        PacketType::FinAck,
-        src_conn_id,
-        dst_conn_id,
-        packet_number,
-        buf,
-    )
+    write_control(PacketType::FinAck, ids, packet_number, buf)
 }
