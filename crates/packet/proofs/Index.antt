@@ -9,7 +9,7 @@ use native.Mathlib.Omega.{arith}
 use native.Mathlib.Decide.{dec_le}
 use native.Mathlib.Nat.{add-zero}
 use lib.ListN.{length, get_or, take, drop, length-take, length-drop}
-use lib.Seq.{sets-eq, length-sets, get_or-take, get_or-drop, drop-drop, take_all}
+use lib.Seq.{sets-eq, length-sets, get_or-take, get_or-drop, drop-drop, take_all, take_at}
 use lib.Dec.{ltb}
 use borrow.Author.Tests.{ltb-false, le-ltb}
 use Rattle.refusal.specs.Said.{Said, answers, refuses, refuses_at}
@@ -29,8 +29,11 @@ abbrev pub Within : List ℕ → ℕ × ℕ → Type 0
 Within s c = c.0 + 20 + c.1 ≤ length s
 
 module _ (s : List ℕ) where
-  pub within : Every (λ k. Within s) 0 (packets_of s).cells
+  within : Every (λ k. Within s) 0 (packets_of s).cells
   within = walk_all s (λ at w. (i : ℕ) → Every (λ k. Within s) i w.cells) (λ at e never i. tt) (λ at len w h each i. (h, each (suc i))) 0
+
+  pub cell_within : (d : ℕ × ℕ) (i : ℕ) → i < length (packets_of s).cells → Within s (get_or (packets_of s).cells i d)
+  cell_within d = every_at (λ k. Within s) d (packets_of s).cells within
 
   -- every packet has 20 bytes or more
   few_cells : length (packets_of s).cells ≤ reading_limit / 20
@@ -154,7 +157,7 @@ module _ (s : List ℕ) where
             let cell = ap (λ (x : List ℕ). (get_or x (2 * i) 0, get_or x (2 * i + 1) 0)) written
             ∙ flat_at cs _ i (rw length-take h)
             ∙ get_or-take (cells_in index) (packets_of s).cells i (0, 0) (omega arith) in
-            subst (Within s) (sym cell) (every_at (λ k. Within s) (0, 0) (packets_of s).cells (within s) i (omega arith))
+            subst (Within s) (sym cell) (cell_within s (0, 0) i (omega arith))
 
 -- the header of a listed packet lies within the datagram
 pub header_within : {s index : List ℕ} {n : ℕ} → Listed s index n → (i : ℕ) → i < n → get_or index (2 * i) 0 + 20 ≤ length s
@@ -172,12 +175,12 @@ answered_all s room n e = by (ltb room (length (packets_of s).cells)) (packets_o
   where
     by : (full : Bool) (ending : Said Unit) → ltb room (length (packets_of s).cells) ≡ full → (packets_of s).ending ≡ ending
         → cond full (refuses 10) (counted (length (packets_of s).cells) ending) ≡ answers n → Answered s room n
-    by true ending f g e = absurd (let z : ◌≡◌ {A = ℕ} 0 1 = cc in omega arith)
+    by true ending f g e = cc
     by false (answers u) f g e =
         let all : n ≡ length (packets_of s).cells = cc in
         record { all = all; fits = omega (arith, ltb-false room (length (packets_of s).cells) f); ended = g }
-    by false (refuses r) f g e = absurd (let z : ◌≡◌ {A = ℕ} 0 1 = cc in omega arith)
-    by false (refuses_at r at) f g e = absurd (let z : ◌≡◌ {A = ℕ} 0 1 = cc in omega arith)
+    by false (refuses r) f g e = cc
+    by false (refuses_at r at) f g e = cc
 
 -- and then the index lists exactly the packets met, for `from_bytes_into` and for `from_bytes`, and each cell lies within the datagram
 module _ (s index : List ℕ) {n : ℕ} (e : parsed s (cells_in index) ≡ answers n) where
@@ -197,3 +200,9 @@ module _ (s index : List ℕ) {n : ℕ} (e : parsed s (cells_in index) ≡ answe
 
   pub lists_parsed : Listed s (parses s index).1 n
   lists_parsed = rw (e, sym all_written) (lists_into s index)
+
+  -- the index begins with the cells of all packets
+  pub cells_parsed : take (2 * n) (parses s index).1 ≡ flat (packets_of s).cells
+  cells_parsed =
+      let a = answered_all s (cells_in index) n e in
+      rw (e, written s index, all_taken) (take_at (flat (packets_of s).cells) _ (2 * n) (rw length-flat (omega (arith, a.all))))

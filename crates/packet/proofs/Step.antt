@@ -1,4 +1,4 @@
--- What stands at a cursor: what `look_at` has to show at each of its returns, and what the walk makes of it.
+-- What stands at a cursor, and what the walk makes of it.
 -- No other law opens `look_at` or `payload_missing`; the samples compute `payload_missing`.
 -- Assumes nothing.
 use Prim.Native.Nat.{ℕ, suc, ◌+◌, ◌-◌, ◌<◌, ◌≤◌}
@@ -8,30 +8,21 @@ use mathlib.Core.List.{List}
 use native.Mathlib.Omega.{arith}
 use lib.ListN.{length}
 use lib.Dec.{ltb, leb}
-use borrow.Author.Tests.{lt-ltb, le-ltb, le-leb, lt-leb, ltb-false, leb-false, not-true, not-false}
+use Rattle.std.specs.Prelude.{Option, Some, None, Result, Ok, Err}
+use borrow.Author.Tests.{le-ltb, le-leb, lt-leb, ltb-false, leb-false}
 use Rattle.refusal.specs.Refusal.{number_of}
 use Rattle.refusal.specs.Said.{answers, refuses_at}
+use Rattle.refusal.specs.declared.Refusal.{Refusal}
 use Rattle.refusal.specs.declared.Refusal.TheVariants.{Tail, UnknownType, PayloadMissing}
 use Rattle.header.specs.Types.{row_of}
 use Rattle.header.specs.Header.{type_at, field_at}
-use Rattle.header.specs.declared.TypeRow.{TypeRow}
 use Rattle.header.proofs.Fields.{neither}
-use Rattle.packet.specs.declared.Look.{Look}
-use Rattle.packet.specs.declared.Look.TheVariants.{Packet, Fault, End}
 use Rattle.packet.specs.Datagram.{Walk, ends, onto, walk_by, payload_missing}
 use Rattle.packet.specs.Step.{look_at}
 
--- a payload is missing where its header is the last thing of a datagram, or where it is longer than what is left
+-- a payload is there where it has a byte or more, and ends before the datagram does
 module _ (len at field : ℕ) where
-  pub header_last : len - at ≤ 20 → payload_missing len at field ≡ true
-  unfolding payload_missing
-  header_last few = rw (le-leb len (at + 20) (omega arith))
-
-  pub payload_short : 20 < len - at → len - at ≤ 19 + field → payload_missing len at field ≡ true
-  unfolding payload_missing
-  payload_short some few = rw (lt-leb len (at + 20) (omega arith), le-leb len (at + 19 + field) (omega arith))
-
-  pub payload_whole : 20 < len - at → 19 + field < len - at → payload_missing len at field ≡ false
+  payload_whole : 20 < len - at → 19 + field < len - at → payload_missing len at field ≡ false
   unfolding payload_missing
   payload_whole some enough = rw (lt-leb len (at + 20) (omega arith), lt-leb len (at + 19 + field) (omega arith))
 
@@ -40,62 +31,40 @@ module _ (len at field : ℕ) where
   payload_fits e = omega (arith, leb-false len (at + 19 + field) (neither (leb len (at + 20)) (leb len (at + 19 + field)) e).1)
 
 -- what the walk makes of it
-abbrev pub stepped : Look → ℕ → (ℕ → Walk) → Walk
-stepped (Packet len) at next = onto (at, len) (next len)
-stepped (Fault r) at next = ends (refuses_at (number_of r) at)
-stepped End at next = ends (answers tt)
+abbrev pub stepped : Result (Option ℕ) Refusal → ℕ → (ℕ → Walk) → Walk
+stepped (Ok (Some len)) at next = onto (at, len) (next len)
+stepped (Err r) at next = ends (refuses_at (number_of r) at)
+stepped (Ok None) at next = ends (answers tt)
 
 -- a packet found lies within the datagram, and no fault is 12
-abbrev pub Sound : List ℕ → ℕ → Look → Type 0
-Sound s at (Packet len) = at + 20 + len ≤ length s
-Sound s at (Fault r) = number_of r ≡ 12 → ⊥
-Sound s at End = Unit
+abbrev pub Sound : List ℕ → ℕ → Result (Option ℕ) Refusal → Type 0
+Sound s at (Ok (Some len)) = at + 20 + len ≤ length s
+Sound s at (Err r) = number_of r ≡ 12 → ⊥
+Sound s at (Ok None) = Unit
 
-pub record Looked (s : List ℕ) (at : ℕ) (r : Look) : Type 0 where
+pub record Looked (s : List ℕ) (at : ℕ) (r : Result (Option ℕ) Refusal) : Type 0 where
   pub step : (steps : ℕ) → walk_by (suc steps) s at ≡ stepped r at (λ len. walk_by steps s (at + 20 + len))
   pub sound : Sound s at r
 
 module _ (s : List ℕ) (at : ℕ) where
-  pub at_end : length s - at ≡ 0 → look_at s at ≡ End
+  pub at_end : length s - at ≡ 0 → look_at s at ≡ Ok None
   unfolding look_at
   at_end e = rw (le-leb (length s) at (omega arith))
 
-  pub at_tail : (length s - at ≡ 0 → ⊥) → length s - at < 20 → look_at s at ≡ Fault Tail
-  unfolding look_at
-  at_tail some few = rw (lt-leb (length s) at (omega arith), lt-ltb (length s) (at + 20) (omega arith))
-
-  -- .. by the row of the header there
-  module _ (more : 20 ≤ length s - at) {row : TypeRow} (is : row ≡ row_of (type_at s at)) where
+  module _ (more : 20 ≤ length s - at) (known : (row_of (type_at s at)).known ≡ true) where
     not_end : leb (length s) at ≡ false
     not_end = lt-leb (length s) at (omega arith)
 
     not_tail : ltb (length s) (at + 20) ≡ false
     not_tail = le-ltb (length s) (at + 20) (omega arith)
 
-    pub at_unknown : not row.known ≡ true → look_at s at ≡ Fault UnknownType
+    pub at_bare : (row_of (type_at s at)).has_payload ≡ false → look_at s at ≡ Ok (Some 0)
     unfolding look_at
-    at_unknown k = rw (not_end, not_tail, rw is at k)
+    at_bare p = rw (not_end, not_tail, ap not known, p)
 
-    module _ (known : not row.known ≡ false) where
-      pub at_no_payload : not row.has_payload ≡ true → look_at s at ≡ Packet 0
-      unfolding look_at
-      at_no_payload p =
-          let none : (row_of (type_at s at)).has_payload ≡ false = not-true _ (rw is at p) in
-          rw (not_end, not_tail, rw is at known, none)
-
-      pub at_payload : not row.has_payload ≡ false → {field : ℕ} → field ≡ field_at s at → {t : Bool} → payload_missing (length s) at field ≡ t
-          → look_at s at ≡ cond t (Fault PayloadMissing) (Packet field)
-      unfolding look_at
-      at_payload p e missing =
-          let some : (row_of (type_at s at)).has_payload ≡ true = not-false _ (rw is at p) in
-          rw (not_end, not_tail, rw is at known, some, rw e at missing, e)
-
-  module _ (more : 20 ≤ length s - at) (known : (row_of (type_at s at)).known ≡ true) where
-    pub at_bare : (row_of (type_at s at)).has_payload ≡ false → look_at s at ≡ Packet 0
-    at_bare p = at_no_payload more refl (ap not known) (ap not p)
-
-    pub at_whole_payload : (row_of (type_at s at)).has_payload ≡ true → 20 < length s - at → 19 + field_at s at < length s - at → look_at s at ≡ Packet (field_at s at)
-    at_whole_payload p some enough = at_payload more refl (ap not known) (ap not p) refl (payload_whole (length s) at (field_at s at) some enough)
+    pub at_whole_payload : (row_of (type_at s at)).has_payload ≡ true → 20 < length s - at → 19 + field_at s at < length s - at → look_at s at ≡ Ok (Some (field_at s at))
+    unfolding look_at
+    at_whole_payload p some enough = rw (not_end, not_tail, ap not known, p, payload_whole (length s) at (field_at s at) some enough)
 
   looks : (end tail unknown payload missing : Bool)
       → leb (length s) at ≡ end
@@ -104,7 +73,8 @@ module _ (s : List ℕ) (at : ℕ) where
       → (row_of (type_at s at)).has_payload ≡ payload
       → payload_missing (length s) at (field_at s at) ≡ missing
       → Looked s at
-      (cond end End (cond tail (Fault Tail) (cond unknown (Fault UnknownType) (cond (payload && missing) (Fault PayloadMissing) (Packet (cond payload (field_at s at) 0))))))
+      (cond end (Ok None)
+      (cond tail (Err Tail) (cond unknown (Err UnknownType) (cond (payload && missing) (Err PayloadMissing) (Ok (Some (cond payload (field_at s at) 0)))))))
   unfolding walk_by
   looks true tail unknown payload missing a b c d e = record { step = λ steps. rw a; sound = tt }
   looks false true unknown payload missing a b c d e = record { step = λ steps. rw (a, b); sound = λ q. omega arith }

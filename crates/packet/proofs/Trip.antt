@@ -8,6 +8,7 @@ use native.Mathlib.Omega.{arith}
 use lib.ListN.{length, take, drop, length-append, length-drop, length-map}
 use lib.Seq.{drop_at, drop-drop, take_at}
 use borrow.Author.Tests.{lt-ltb, le-ltb}
+use Rattle.std.specs.Prelude.{Some, Ok}
 use Rattle.refusal.specs.Said.{answers}
 use Rattle.header.specs.Types.{type_number, row_of}
 use Rattle.header.specs.Header.{header_bytes, type_at, field_at, header_at}
@@ -15,7 +16,6 @@ use Rattle.header.specs.declared.BluefinHeader.{BluefinHeader}
 use Rattle.header.proofs.Types.{number_known}
 use Rattle.header.proofs.Trip.{Sized, length-header, read_at, type_read}
 use Rattle.packet.specs.Packet.{Packet, packet_bytes, joined}
-use Rattle.packet.specs.declared.Look.TheVariants as look
 use Rattle.packet.specs.Datagram.{Walk, walk_at, reading_limit, packets_of, cells_in, parsed, parses, packet_at, listed}
 use Rattle.packet.specs.Step.{look_at}
 use Rattle.packet.proofs.Alone.{length_packet}
@@ -69,14 +69,14 @@ module _ (s : List ℕ) (at : ℕ) (p : Packet) (rest : List ℕ) (h : Honest p)
   unfolding header_at
   field_read = ap (λ (x : BluefinHeader). x.type_specific_payload) header_read
 
-  looked : (has_payload p.header ≡ true → 0 < length p.payload + length rest) → look_at s at ≡ look.Packet (length p.payload)
+  looked : (has_payload p.header ≡ true → 0 < length p.payload + length rest) → look_at s at ≡ Ok (Some (length p.payload))
   looked some =
       let type : type_at s at ≡ type_number p.header.type_field = type_read p.header h.sized s (p.payload ++ rest) at behind in
       let known : (row_of (type_at s at)).known ≡ true = rw type (lt-ltb _ 7 (number_known p.header.type_field)) in
       by known type (has_payload p.header) refl
     where
       by : (row_of (type_at s at)).known ≡ true → type_at s at ≡ type_number p.header.type_field → (t : Bool) → has_payload p.header ≡ t
-          → look_at s at ≡ look.Packet (length p.payload)
+          → look_at s at ≡ Ok (Some (length p.payload))
       by known type true e =
           let long : length p.payload ≡ field_at s at = h.long ∙ rw e (sym field_read) in
           rw long (at_whole_payload s at (omega (arith, left)) known (rw type e) (omega (arith, left, some e)) (omega (arith, left)))

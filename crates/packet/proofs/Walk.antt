@@ -1,4 +1,4 @@
--- The walk over a datagram, one packet on: what the loops of `count` and `index_packets` have still to answer and to write.
+-- The walk over a datagram, one packet on: what the loops of `count` and `write_cells` have still to answer and to write.
 -- Assumes nothing.
 use Prim.Native.Nat.{ℕ, zero, suc, ◌+◌, ◌-◌, ◌*◌, ◌<◌, ◌≤◌, min}
 use mathlib.Core.Path.{◌≡◌, refl, sym, ap, subst, ◌∙◌}
@@ -11,14 +11,13 @@ use native.Mathlib.Nat.{zero-add}
 use lib.ListN.{length, set}
 use lib.Seq.{take-nil}
 use lib.Dec.{ltb}
+use Rattle.std.specs.Prelude.{Option, Some, None, Result, Ok, Err}
 use borrow.Author.Tests.{lt-ltb, le-ltb}
 use Rattle.refusal.specs.Refusal.{number_of}
-use Rattle.refusal.specs.Said.{Said, answers, refuses, refuses_at, refusal_in}
+use Rattle.refusal.specs.Said.{Said, answers, refuses, refuses_at, stopped, refusal_in}
 use Rattle.refusal.specs.declared.Refusal.{Refusal}
-use Rattle.packet.specs.declared.Look.{Look}
-use Rattle.packet.specs.declared.Look.TheVariants.{Packet, Fault, End}
 use Rattle.packet.specs.Datagram.{Walk, ends, onto, walk_by, walk_at, reading_limit, packets_of}
-use Rattle.packet.specs.Datagram.{cells_in, flat, counted, parsed, parses_into, indexes, parses}
+use Rattle.packet.specs.Datagram.{cells_in, flat, counted, parsed, indexes, parses}
 use Rattle.packet.specs.Step.{look_at, outcome}
 use Rattle.packet.proofs.Step.{stepped, Sound, Looked, looked}
 
@@ -30,26 +29,26 @@ steps_enough (suc f) (suc g) s at h k =
     let l = looked s at in
     l.step f ∙ by (look_at s at) l.sound (λ len w. steps_enough f g s (at + 20 + len) (omega arith) (omega arith)) ∙ sym (l.step g)
   where
-    by : (r : Look) → Sound s at r → ((len : ℕ) → at + 20 + len ≤ length s → walk_by f s (at + 20 + len) ≡ walk_by g s (at + 20 + len))
+    by : (r : Result (Option ℕ) Refusal) → Sound s at r → ((len : ℕ) → at + 20 + len ≤ length s → walk_by f s (at + 20 + len) ≡ walk_by g s (at + 20 + len))
         → stepped r at (λ len. walk_by f s (at + 20 + len)) ≡ stepped r at (λ len. walk_by g s (at + 20 + len))
-    by (Packet len) w ih = ap (onto (at, len)) (ih len w)
-    by (Fault r) w ih = refl
-    by End w ih = refl
+    by (Ok (Some len)) w ih = ap (onto (at, len)) (ih len w)
+    by (Err r) w ih = refl
+    by (Ok None) w ih = refl
 
 module _ (s : List ℕ) (at : ℕ) where
-  walk_as : {r : Look} → look_at s at ≡ r → Looked s at r
+  walk_as : {r : Result (Option ℕ) Refusal} → look_at s at ≡ r → Looked s at r
   walk_as q = subst (Looked s at) q (looked s at)
 
-  pub walk_end : look_at s at ≡ End → walk_at s at ≡ ends (answers tt)
+  pub walk_end : look_at s at ≡ Ok None → walk_at s at ≡ ends (answers tt)
   walk_end q = (walk_as q).step (length s - at)
 
-  pub walk_fault : {r : Refusal} → look_at s at ≡ Fault r → walk_at s at ≡ ends (refuses_at (number_of r) at)
+  pub walk_fault : {r : Refusal} → look_at s at ≡ Err r → walk_at s at ≡ ends (refuses_at (number_of r) at)
   walk_fault q = (walk_as q).step (length s - at)
 
-  pub packet_within : {len : ℕ} → look_at s at ≡ Packet len → at + 20 + len ≤ length s
+  pub packet_within : {len : ℕ} → look_at s at ≡ Ok (Some len) → at + 20 + len ≤ length s
   packet_within q = (walk_as q).sound
 
-  pub walk_packet : {len : ℕ} → look_at s at ≡ Packet len → walk_at s at ≡ onto (at, len) (walk_at s (at + 20 + len))
+  pub walk_packet : {len : ℕ} → look_at s at ≡ Ok (Some len) → walk_at s at ≡ onto (at, len) (walk_at s (at + 20 + len))
   walk_packet {len} q =
       let w = packet_within q in
       (walk_as q).step (length s - at) ∙ ap (onto (at, len)) (steps_enough (length s - at) (suc (length s - (at + 20 + len))) s (at + 20 + len) (omega arith) (omega arith))
@@ -102,16 +101,11 @@ module _ (s : List ℕ) where
       let room : cells_in index - 0 ≡ cells_in index = omega arith in
       rw (room, zero-add (length (packets_of s).cells))
 
--- what `from_bytes` leaves, once its packets are counted
+-- what `from_bytes` leaves where its first pass is refused
 module _ (s index : List ℕ) where
-  pub parses-counted : {n : ℕ} → parsed s (cells_in index) ≡ answers n → parses_into s index ≡ parses s index
-  parses-counted e = rw e
-
-  pub parses-refused : {r : ℕ} → parsed s (cells_in index) ≡ refuses r → ◌≡◌ {A = Said ℕ × List ℕ} (refuses r, index) (parses s index)
-  parses-refused e = rw e
-
-  pub parses_refused_at : {r at : ℕ} → parsed s (cells_in index) ≡ refuses_at r at → ◌≡◌ {A = Said ℕ × List ℕ} (refuses_at r at, index) (parses s index)
-  parses_refused_at e = rw e
+  pub parses_stopped : (n : ℕ) (cursor : Option ℕ) → parsed s (cells_in index) ≡ stopped n cursor → ◌≡◌ {A = Said ℕ × List ℕ} (stopped n cursor, index) (parses s index)
+  parses_stopped n None e = rw e
+  parses_stopped n (Some at) e = rw e
 
 -- a property that every ending with another number than 12 has, and that a packet in front keeps, is the walk's
 module _ (s : List ℕ) (P : ℕ → Walk → Type 0) (ended : (at : ℕ) (e : Said Unit) → (refusal_in e ≡ 12 → ⊥) → P at (ends e))
@@ -120,10 +114,10 @@ module _ (s : List ℕ) (P : ℕ → Walk → Type 0) (ended : (at : ℕ) (e : S
   walk_steps zero at h = absurd (omega arith)
   walk_steps (suc steps) at h = by (look_at s at) refl (λ len w. walk_steps steps (at + 20 + len) (omega arith))
     where
-      by : (r : Look) → look_at s at ≡ r → ((len : ℕ) → at + 20 + len ≤ length s → P (at + 20 + len) (walk_at s (at + 20 + len))) → P at (walk_at s at)
-      by (Packet len) q rest = let w = packet_within s at q in rw (walk_packet s at q) (onward at len _ w (rest len w))
-      by (Fault r) q rest = rw (walk_fault s at q) (ended at _ (walk_as s at q).sound)
-      by End q rest = rw (walk_end s at q) (ended at _ (λ z. omega arith))
+      by : (r : Result (Option ℕ) Refusal) → look_at s at ≡ r → ((len : ℕ) → at + 20 + len ≤ length s → P (at + 20 + len) (walk_at s (at + 20 + len))) → P at (walk_at s at)
+      by (Ok (Some len)) q rest = let w = packet_within s at q in rw (walk_packet s at q) (onward at len _ w (rest len w))
+      by (Err r) q rest = rw (walk_fault s at q) (ended at _ (walk_as s at q).sound)
+      by (Ok None) q rest = rw (walk_end s at q) (ended at _ (λ z. omega arith))
 
   pub walk_all : P 0 (packets_of s)
   walk_all =

@@ -2,13 +2,10 @@
 -- `from_bytes` and `from_bytes_into` of core/packet.rs.
 use Rattle.std.specs.Prelude.{ℕ, zero, suc, ◌+◌, ◌-◌, ◌*◌, ◌/◌, ◌<◌, ◌≤◌, min, Bool, not, cond, ◌&&◌, ◌||◌, List, [], ◌∷◌, length, get_or, take, drop, ltb, leb}
 use Rattle.std.proofs.lemmas.List.Edits.{sets}
-use Rattle.refusal.specs.Refusal.{number_of}
 use Rattle.refusal.specs.Said.{Said, answers, refuses, refuses_at, checks}
 use Rattle.header.specs.Types.{row_of}
 use Rattle.header.specs.Header.{type_at, field_at, header_at}
 use Rattle.packet.specs.Packet.{Packet}
-use Rattle.packet.specs.declared.Parsed.{Parsed}
-use Rattle.packet.specs.declared.Parsed.TheVariants as parsed_as
 
 -- 02 §1, in place of 01's 65,527: "The studio runs IPv4, whose total length of 65,535 includes at least 20 header bytes, then UDP's 8. So the reading limit becomes 65,507"
 unfoldable pub reading_limit : ℕ
@@ -103,11 +100,6 @@ left_by (refuses_at r at) written index = index
 
 abbrev pub parses : List ℕ → List ℕ → Said ℕ × List ℕ
 parses s index = (parsed s (cells_in index), left_by (parsed s (cells_in index)) (parses_into s index).1 index)
-
-abbrev pub parsed_says : Parsed → Said ℕ
-parsed_says (parsed_as.Packets n) = answers n
-parsed_says (parsed_as.Refused r) = refuses (number_of r)
-parsed_says (parsed_as.RefusedAt r at) = refuses_at (number_of r) at
 
 -- ---- the packets that an index lists
 

@@ -1,12 +1,9 @@
 -- One packet: a header beside a payload, written and read alone. Document 01, "The header, last leaf"; core/packet.rs.
 use Rattle.std.specs.Prelude.{ℕ, ◌+◌, List, [], ◌∷◌, ◌++◌, length, drop, ltb}
 use Rattle.std.proofs.Math.Seq.{paste}
-use Rattle.refusal.specs.Refusal.{number_of}
 use Rattle.refusal.specs.Said.{Said, answers, refuses, refuses_at, checks}
 use Rattle.header.specs.Header.{header_bytes, deserialises_at, fields_too_large}
 use Rattle.header.specs.declared.BluefinHeader.{BluefinHeader}
-use Rattle.packet.specs.declared.PacketWritten.{PacketWritten}
-use Rattle.packet.specs.declared.PacketWritten.TheVariants as packet_written
 
 pub record Packet : Type 0 where
   pub header : BluefinHeader
@@ -19,10 +16,6 @@ packet_bytes p = header_bytes p.header ++ p.payload
 unfoldable pub joined : List Packet → List ℕ
 joined [] = []
 joined (p ∷ ps) = packet_bytes p ++ joined ps
-
-abbrev pub packet_written_says : PacketWritten → Said ℕ
-packet_written_says (packet_written.Bytes n) = answers n
-packet_written_says (packet_written.Refused r) = refuses (number_of r)
 
 -- "Writing version above 15 or mask above 127: 11; then buffer short: 10. A packet's field isn't checked against its payload on writing.
 -- Writing answers the bytes written; those after them stay."
