@@ -2,7 +2,6 @@
 -- Assumes nothing.
 use Prim.Native.Nat.{ℕ, zero, suc, ◌+◌, ◌%◌, ◌<◌, ◌≤◌}
 use native.Mathlib.Nat.{add-zero, mod-eq_of_lt}
-use native.Mathlib.Numerals.{add-one}
 use native.Mathlib.Omega.{arith}
 use mathlib.Core.Path.{◌≡◌, refl, sym, ap, ◌∙◌}
 use mathlib.Core.List.{List, ◌∷◌, ◌++◌}
@@ -21,10 +20,6 @@ module _ (head : ℕ) (ys : List AckData) where
   pub blanked_none : ys ≡ blanked head 0 ys
   unfolding blanked
   blanked_none = refl
-
-  pub blanked_next : (k : ℕ) → set (blanked head k ys) ((head + k) % length ys) blank ≡ blanked head (k + 1) ys
-  unfolding blanked
-  blanked_next k = ap (λ (m : ℕ). blanked head m ys) (sym (add-one k))
 
   pub blanked-one : head < length ys → blanked head 1 ys ≡ set ys head blank
   unfolding blanked

@@ -2,3 +2,4 @@ pub mod Blanked
 pub mod Cases
 pub mod Laws
 pub mod Positions
+pub mod Popping

@@ -1,4 +1,2 @@
 pub mod Ring
-pub mod Says
-pub mod Places
-pub mod Told
+pub mod Views
