@@ -11,8 +11,8 @@ use lib.Dec.{ltb}
 use borrow.Author.Tests.{ltb-true}
 use Rattle.lists.proofs.Order.{either}
 use Rattle.window.specs.declared.SlidingWindow.{SlidingWindow}
-use Rattle.window.specs.Window.{expected, held, place, numbers, stored, stored_cells, grown, before_held, run_length, consumed_cells, advanced}
-use Rattle.window.proofs.Rises.{Rises, bound, WellFormed, is_member, place-from}
+use Rattle.window.specs.Window.{expected, held, place, numbers, stored, stored_cells, grown, before_held, run_length, consumed_cells, advanced, Rises}
+use Rattle.window.proofs.Rises.{bound, WellFormed, rises_wider, is_member, place-from}
 use Rattle.window.proofs.Loops.{length-numbers}
 use Rattle.window.proofs.Members.{before, run}
 
@@ -36,11 +36,6 @@ module _ (hi : ℕ) where
           (p < length (x ∷ xs) → b + k ≤ get_or (x ∷ xs) p 0) → Rises lo hi (take p (x ∷ xs) ++ numbers b k ++ drop p (x ∷ xs))
       by true q ih f = (r.0, r.1, ih (ltb-true x b q) (λ p. f (suc-le-suc p)))
       by false q ih f = rises_numbers lo b k (x ∷ xs) l h (f (suc-le-suc zero-le), r.1, r.2)
-
--- numbers that rise in narrower bounds rise in wider ones
-rises_wider : (lo hi from top : ℕ) (xs : List ℕ) → from ≤ lo → hi ≤ top → Rises lo hi xs → Rises from top xs
-rises_wider lo hi from top [] l h r = tt
-rises_wider lo hi from top (x ∷ xs) l h r = (omega arith, omega arith, rises_wider (suc x) hi (suc x) top xs (omega arith) h r.2)
 
 -- the numbers before the first held one stand below the one at their place
 before-below : (b k : ℕ) (xs : List ℕ) → place b xs < length xs → b + before_held b k xs ≤ get_or xs (place b xs) 0

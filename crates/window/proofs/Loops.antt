@@ -2,17 +2,20 @@
 -- Assumes nothing.
 use Prim.Native.Nat.{ℕ, zero, suc, ◌+◌, ◌-◌, ◌≤◌, ◌<◌}
 use mathlib.Core.Path.{◌≡◌, refl, sym, ap, ◌∙◌}
-use mathlib.Core.Bool.{Bool, true, false, cond, ◌&&◌, and_self, and-true, and-false}
+use mathlib.Core.Bool.{Bool, true, false, cond, ◌&&◌, and_assoc, and_self, and-true, and-false}
 use mathlib.Core.List.{List, [], ◌∷◌, ◌++◌, append_assoc, append-nil}
 use native.Mathlib.Nat.{le_of_suc-le-suc, not-suc-le-zero}
 use native.Mathlib.Numerals.{add-one}
 use native.Mathlib.Omega.{arith}
 use lib.ListN.{length, take, drop, get_or, set, replicate, length-append, length-drop, length-replicate, take-append-drop}
-use lib.Seq.{paste, length-take-le, get_or-take, take-take, take-length, paste-suc, slice_empty, slice-cons}
+use lib.Seq.{paste, length-take-le, get_or-take, take-take, take-length, paste-suc, drop-cons}
 use lib.Dec.{ltb, eqb}
-use borrow.Author.Tests.{lt-ltb, le-ltb, lt-leb, ne_eqb, ltb-true}
+use borrow.Rule.Slice.PartMut.{put_mid}
+use borrow.Author.Tests.{lt-ltb, le-ltb, lt-leb, ltb-true}
+use Rattle.std.proofs.lemmas.Slice.{put_mid-paste}
+use Rattle.std.specs.List.{AllAdjacentBelow, IsAllAdjacentAnswer}
 use Rattle.lists.specs.Numbers.{largest}
-use Rattle.refusal.specs.Said.{answers, refuses, refusal_in, checks}
+use Rattle.refusal.specs.Said.{answers, refuses, checks}
 use Rattle.lists.proofs.Tests.{both}
 use Rattle.lists.proofs.Rising.{first_last}
 use Rattle.lists.proofs.Paste.{length_part, paste_all, paste_behind}
@@ -20,9 +23,39 @@ use Rattle.lists.proofs.Taken.{paste-taken}
 use Rattle.lists.proofs.Shift.{drop-take, take_before_paste, drop_at_paste}
 use Rattle.window.specs.declared.SlidingWindow.{SlidingWindow}
 use Rattle.window.specs.Window.{window_size, Outcome, refused, expected, held, too_few, member, rising, holdable, all_holdable, place, numbers, stored}
-use Rattle.window.specs.Window.{well_formed, stored_cells, grown, before_held, store_before, store_run, insert_packet_number, insert_range, run_length}
-use Rattle.window.proofs.Rises.{bound, WellFormed, well_formed_lem, is_holdable, holdable_is, is_member, not-before, place-from}
+use Rattle.window.specs.Window.{well_formed, stored_cells, grown, before_held, store_before, store_run, insert_packet_number, run_length}
+use Rattle.window.proofs.Rises.{Rises, is_holdable, holdable_is, is_member, held_fits, rises_at, not-before, place-from}
 use Rattle.window.proofs.Members.{before_is}
+
+-- `is_rising`: five neighbours decide, or leave it to the numbers from the fifth on; at the end each number and the next decide
+pub rising_five : (xs : List ℕ) → 5 ≤ length xs → rising xs
+    ≡ ((ltb (get_or xs 0 0) (get_or xs 1 0) && ltb (get_or xs 1 0) (get_or xs 2 0) && ltb (get_or xs 2 0) (get_or xs 3 0) && ltb (get_or xs 3 0) (get_or xs 4 0)) && rising (drop 4 xs))
+unfolding rising
+rising_five [] h = absurd (omega arith)
+rising_five (a ∷ []) h = absurd (omega arith)
+rising_five (a ∷ b ∷ []) h = absurd (omega arith)
+rising_five (a ∷ b ∷ c ∷ []) h = absurd (omega arith)
+rising_five (a ∷ b ∷ c ∷ d ∷ []) h = absurd (omega arith)
+rising_five (a ∷ b ∷ c ∷ d ∷ e ∷ xs) h = simp and_assoc
+
+rising_all : (xs : List ℕ) → AllAdjacentBelow (λ x y. true ≡ ltb x y) xs (length xs) → rising xs ≡ true
+unfolding rising
+rising_all [] h = refl
+rising_all (x ∷ []) h = refl
+rising_all (x ∷ y ∷ ys) h = rw (← h 0 0 (omega arith)) (rising_all (y ∷ ys) (λ k d l. let q : suc k + 1 ≡ suc (k + 1) = omega arith in rw q at (h (suc k) d (omega arith))))
+
+rising_some : (xs : List ℕ) (k : ℕ) → k + 1 < length xs → false ≡ ltb (get_or xs k 0) (get_or xs (k + 1) 0) → rising xs ≡ false
+unfolding rising
+rising_some [] k l h = absurd (omega arith)
+rising_some (x ∷ []) k l h = absurd (omega arith)
+rising_some (x ∷ y ∷ ys) zero l h = rw (← h)
+rising_some (x ∷ y ∷ ys) (suc k) l h =
+    let q : suc k + 1 ≡ suc (k + 1) = omega arith in
+    rw (rising_some (y ∷ ys) k (omega arith) (rw q at h)) (and-false (ltb x y))
+
+pub rising_adjacent : (xs : List ℕ) (r : Bool) → IsAllAdjacentAnswer (λ x y b. b ≡ ltb x y) xs r → r ≡ rising xs
+rising_adjacent xs true h = sym (rising_all xs h)
+rising_adjacent xs false h = sym (rising_some xs h.0 h.1 (h.2 0))
 
 -- `well_formed`: rising numbers may all be held where the first and the last may
 between : (w : SlidingWindow) (x y z : ℕ) → x ≤ y → y ≤ z → holdable w x ≡ true → holdable w z ≡ true → holdable w y ≡ true
@@ -49,53 +82,57 @@ ends w x (y ∷ ys) r =
     by true a false b f = and-false (holdable w y)
     by false a q b f = refl
 
-pub holdable-ends : (w : SlidingWindow) (cells : List ℕ) (count : ℕ) → 0 < count → count ≤ length cells → rising (take count cells) ≡ true
+pub holdable_at_ends : (w : SlidingWindow) (cells : List ℕ) (count : ℕ) → 0 < count → count ≤ length cells → rising (take count cells) ≡ true
     → all_holdable w (take count cells) ≡ (holdable w (get_or cells 0 0) && holdable w (get_or cells (count - 1) 0))
-holdable-ends w [] count h k r = absurd (omega arith)
-holdable-ends w (x ∷ xs) zero h k r = absurd (not-suc-le-zero h)
-holdable-ends w (x ∷ xs) (suc n) h k r =
+holdable_at_ends w [] count h k r = absurd (omega arith)
+holdable_at_ends w (x ∷ xs) zero h k r = absurd (not-suc-le-zero h)
+holdable_at_ends w (x ∷ xs) (suc n) h k r =
     let q : suc n - 1 ≡ n = omega arith in
     let l = length-take-le n xs (le_of_suc-le-suc k) in
     rw (q, ← get_or-take (suc n) (x ∷ xs) n 0 (omega arith)) (rw l at (ends w x (take n xs) r))
 
--- `find_place`: one number less behind those to look at, where it is not below n
-place-suc : (n i : ℕ) (cells : List ℕ) → i < length cells → n ≤ get_or cells i 0 → place n (take (suc i) cells) ≡ place n (take i cells)
+-- `find_place`: where the last of the first i numbers is below n, n's place among those is behind all of them; where it is not, it can be left out
+behind : (lo n i : ℕ) (xs : List ℕ) → Rises lo largest xs → i < length xs → get_or xs i 0 < n → place n (take (suc i) xs) ≡ suc i
 unfolding place
-place-suc n i [] h l = absurd (not-suc-le-zero h)
-place-suc n zero (x ∷ xs) h l = rw (le-ltb x n l)
-place-suc n (suc i) (x ∷ xs) h l = rw (place-suc n i xs (le_of_suc-le-suc h) l)
+behind lo n i [] r h l = absurd (not-suc-le-zero h)
+behind lo n zero (x ∷ xs) r h l = rw (lt-ltb x n l)
+behind lo n (suc i) (x ∷ xs) r h l =
+    let q = rises_at largest (suc x) i xs r.2 (le_of_suc-le-suc h) in
+    rw (lt-ltb x n (omega arith)) (ap suc (behind (suc x) n i xs r.2 (le_of_suc-le-suc h) l))
 
-pub place_back : (n i : ℕ) (cells : List ℕ) → 0 < i → i ≤ length cells → n ≤ get_or cells (i - 1) 0 → place n (take i cells) ≡ place n (take (i - 1) cells)
-place_back n i cells h k l =
+pub place_behind : (n i : ℕ) (xs : List ℕ) → Rises 0 largest xs → 0 < i → i ≤ length xs → get_or xs (i - 1) 0 < n → place n (take i xs) ≡ i
+place_behind n i xs r h k l =
     let q : suc (i - 1) ≡ i = omega arith in
-    rw q at (place-suc n (i - 1) cells (omega arith) l)
+    rw q at (behind 0 n (i - 1) xs r (omega arith) l)
 
--- `first_held`: the first held number stands in the cell at base's place, if there is one
-pub place_cell : (b count at : ℕ) (cells : List ℕ) → count ≤ length cells → at ≡ place b (take count cells) → at < count → b ≤ get_or cells at 0
-place_cell b count at cells k q h =
-    let l : place b (take count cells) < length (take count cells) = rw (length-take-le count cells k, ← q) h in
-    rw (← q, get_or-take count cells at 0 h) at (place-from b (take count cells) l)
+before : (n i : ℕ) (xs : List ℕ) → i < length xs → n ≤ get_or xs i 0 → place n (take (suc i) xs) ≡ place n (take i xs)
+unfolding place
+before n i [] h l = absurd (not-suc-le-zero h)
+before n zero (x ∷ xs) h l = rw (le-ltb x n l)
+before n (suc i) (x ∷ xs) h l = rw (before n i xs (le_of_suc-le-suc h) l)
 
-pub before_cell : (w : SlidingWindow) (cells : List ℕ) (b range at i : ℕ) → WellFormed w cells → at ≡ place b (held w cells) → i ≤ range
-    → (at < w.count → b + i ≤ get_or cells at 0) → (i < range → (at < w.count) × (get_or cells at 0 ≡ b + i)) → i ≡ before_held b range (held w cells)
-before_cell w cells b range at i wf q l f m =
-    let long = length-take-le w.count cells wf.fits in
-    sym (before_is b range i (held w cells) record {
+pub place_before : (n i : ℕ) (xs : List ℕ) → 0 < i → i ≤ length xs → n ≤ get_or xs (i - 1) 0 → place n (take i xs) ≡ place n (take (i - 1) xs)
+place_before n i xs h k l =
+    let q : suc (i - 1) ≡ i = omega arith in
+    rw q at (before n (i - 1) xs (omega arith) l)
+
+-- `first_held`: the first held number stands at base's place, if there is one
+pub place_cell : (b at : ℕ) (xs : List ℕ) → at ≡ place b xs → at < length xs → b ≤ get_or xs at 0
+place_cell b at xs q h = rw (← q) at (place-from b xs (rw q at h))
+
+pub before_cell : (lo hi b range at i : ℕ) (xs : List ℕ) → Rises lo hi xs → at ≡ place b xs → i ≤ range
+    → (at < length xs → b + i ≤ get_or xs at 0) → (i < range → (at < length xs) × (get_or xs at 0 ≡ b + i)) → i ≡ before_held b range xs
+before_cell lo hi b range at i xs r q l f m =
+    sym (before_is b range i xs record {
       within = l;
-      free = λ j h. not-before (bound w) (expected w) b (b + j) (held w cells) wf.rises (omega arith)
-          (λ p. let u : at < w.count = rw (long, ← q) at p in rw (← q, get_or-take w.count cells at 0 u) (let g = f u in omega arith));
-      held = λ h. let u = m h in is_member (b + i) at (held w cells) (rw long u.0) (get_or-take w.count cells at 0 u.0 ∙ u.1);
+      free = λ j h. not-before hi lo b (b + j) xs r (omega arith) (λ p. rw (← q) (let g = f (rw (← q) at p) in omega arith));
+      held = λ h. let u = m h in is_member (b + i) at xs u.0 u.1;
     })
 
 -- `run_length`
-pub run_at : (e : ℕ) (cells : List ℕ) (count i : ℕ) → i < count → count ≤ length cells
-    → run_length e (drop i (take count cells)) ≡ cond (eqb (get_or cells i 0) e) (run_length (e + 1) (drop (i + 1) (take count cells)) + 1) 0
+pub run_at : (e i : ℕ) (xs : List ℕ) → i < length xs → run_length e (drop i xs) ≡ cond (eqb (get_or xs i 0) e) (run_length (e + 1) (drop (i + 1) xs) + 1) 0
 unfolding run_length
-run_at e cells count i h k = rw (add-one i, slice-cons i count cells 0 h k, add-one e, add-one (run_length (suc e) (drop (suc i) (take count cells))))
-
-pub run_end : (e : ℕ) (cells : List ℕ) (count : ℕ) → run_length e (drop count (take count cells)) ≡ 0
-unfolding run_length
-run_end e cells count = rw (slice_empty count cells)
+run_at e i xs h = rw (drop-cons xs i 0 h, add-one e, add-one i, add-one (run_length (suc e) (drop (suc i) xs)))
 
 -- `fill`
 pub length-numbers : (b k : ℕ) → length (numbers b k) ≡ k
@@ -109,12 +146,13 @@ get_or-numbers b zero i h = absurd (not-suc-le-zero h)
 get_or-numbers b (suc k) zero h = omega arith
 get_or-numbers b (suc k) (suc i) h = get_or-numbers (suc b) k i (le_of_suc-le-suc h) ∙ omega arith
 
--- `fill` and `clear`: one more of s's numbers written
-pub write_at : (d s : List ℕ) (at k i x : ℕ) → length s ≡ k → get_or s i 0 ≡ x → i < k → at + k ≤ length d → set (paste d at s i) (at + i) x ≡ paste d at s (i + 1)
-write_at d s at k i x l q h m = rw (add-one i, ← q) (paste-suc d at s i 0 (omega arith) (omega arith))
+pub fill_turn : (d : List ℕ) (at b k i : ℕ) → i < k → at + k ≤ length d → set (paste d at (numbers b k) i) (at + i) (b + i) ≡ paste d at (numbers b k) (i + 1)
+fill_turn d at b k i h m =
+    let l = length-numbers b k in
+    rw (add-one i, ← get_or-numbers b k i h) (paste-suc d at (numbers b k) i 0 (omega arith) (omega arith))
 
 -- `shift_up`, then `fill`: k numbers stored at b's place
-pub stored_is : (cells shifted left : List ℕ) (b k count at : ℕ) → at ≡ place b (take count cells) → at ≤ count → count + k ≤ length cells
+stored_is : (cells shifted left : List ℕ) (b k count at : ℕ) → at ≡ place b (take count cells) → at ≤ count → count + k ≤ length cells
     → shifted ≡ paste cells (at + k) (drop at cells) (count - at) → left ≡ paste shifted at (numbers b k) k
     → left ≡ stored b k (take count cells) ++ drop (count + k) cells
 stored_is cells shifted left b k count at q h l s t =
@@ -133,10 +171,25 @@ stored_none w cells b =
     let p = place b (held w cells) in
     rw (z, append-nil (take p (held w cells)), take-append-drop p (held w cells), take-append-drop w.count cells)
 
-pub run_none : (w : SlidingWindow) (cells : List ℕ) (b count : ℕ) → w.count ≤ length cells → 0 < count → store_before w cells b count 0 ≡ refused w cells 7
+run_none : (w : SlidingWindow) (cells : List ℕ) (b count : ℕ) → w.count ≤ length cells → 0 < count → store_before w cells b count 0 ≡ refused w cells 7
 run_none w cells b count h l =
     rw (le-ltb (length cells) (w.count + 0) (omega arith), lt-ltb 0 count l)
     (ap (λ (s : SlidingWindow × List ℕ). (refuses 7, s.0, s.1)) (stored_none w cells b))
+
+-- `store_run`: what the searches found, and what a shift and a fill leave, is what the definition stores
+module _ (w : SlidingWindow) (cells held_now : List ℕ) (b count k : ℕ) (now : held_now ≡ held w cells) (found : k ≡ before_held b count held_now) where
+  pub run_of_none : w.count ≤ length cells → 0 < count → k ≡ 0 → (refuses 7, w, cells) ≡ store_run w cells b count
+  run_of_none h l z =
+      let none : before_held b count (held w cells) ≡ 0 = rw (← now, ← found) z in
+      sym (ap (store_before w cells b count) none ∙ run_none w cells b count h l)
+
+  pub run_of : (at : ℕ) {shifted left : List ℕ} → at ≡ place b held_now → at ≤ w.count → w.count + k ≤ length cells
+      → shifted ≡ paste cells (at + k) (drop at cells) (w.count - at) → left ≡ paste shifted at (numbers b k) k
+      → (cond (ltb k count) (refuses 7) (answers tt), grown w k, left) ≡ store_run w cells b count
+  run_of at {shifted} {left} q h room s t =
+      let stored = stored_is cells shifted left b k w.count at (q ∙ ap (place b) now) h room s t in
+      let k_is : before_held b count (held w cells) ≡ k = rw (← now) (sym found) in
+      rw (k_is, le-ltb (length cells) (w.count + k) room, stored)
 
 -- a run of one number: 7 where it is held, 10 where there is no cell
 abbrev pub store_one : SlidingWindow → List ℕ → ℕ → Outcome Unit
@@ -151,40 +204,26 @@ one_is w cells n h = by (member n (held w cells))
     by true = run_none w cells n 1 h (omega arith)
     by false = refl
 
--- .. and at 7 the window is the one that came
-pub one-held : (w v : SlidingWindow) (cells left : List ℕ) (n : ℕ) → w.count ≤ length cells → (refuses 7, v, left) ≡ store_run w cells n 1 → (refuses 7, w, left) ≡ store_run w cells n 1
-one-held w v cells left n h e = rw (by (member n (held w cells)) (too_few w cells 1) (e ∙ one_is w cells n h)) at e
-  where
-    by : (s t : Bool) → ◌≡◌ {A = Outcome Unit} (refuses 7, v, left)
-        (checks ((s, 7) ∷ (t, 10) ∷ []) (refused w cells) (answers tt, grown w 1, stored_cells w cells n 1)) → v ≡ w
-    by true t e = ap (λ (o : Outcome Unit). o.1) e
-    by false true e = absurd (let z : ◌≡◌ {A = ℕ} 7 10 = ap (λ (o : Outcome Unit). refusal_in o.0) e in omega arith)
-    by false false e = absurd (let z : ◌≡◌ {A = ℕ} 7 0 = ap (λ (o : Outcome Unit). refusal_in o.0) e in omega arith)
-
--- past an insert's tests: what is left of the definition
+-- past a single insertion's tests: what is left of the definition
 pub one_past : (w : SlidingWindow) (cells : List ℕ) (n : ℕ) → well_formed w cells ≡ true → expected w ≤ n → n - expected w < window_size → n < largest
     → insert_packet_number w cells n ≡ store_run w cells n 1
 unfolding insert_packet_number
 one_past w cells n h l m u =
-    simp (h, le-ltb n (expected w) l, lt-leb window_size (n - expected w) m, lt-leb largest n u) (sym (one_is w cells n (well_formed_lem w cells h).fits))
+    simp (h, le-ltb n (expected w) l, lt-leb window_size (n - expected w) m, lt-leb largest n u) (sym (one_is w cells n (held_fits w cells h)))
 
-pub range_past : (w : SlidingWindow) (cells : List ℕ) (base count : ℕ) → well_formed w cells ≡ true → (count ≡ 0 → ⊥) → expected w ≤ base
-    → base + count ≤ largest → base + count - 1 - expected w < window_size → insert_range w cells base count ≡ store_run w cells base count
-unfolding insert_range
-range_past w cells base count h d l u m =
-    simp (h, ne_eqb count 0 d, le-ltb base (expected w) l, le-ltb largest (base + count) u, lt-leb window_size (base + count - 1 - expected w) m)
-
--- `shift_down`, then `clear`: k numbers consumed
-pub consumed_is : (cells shifted left : List ℕ) (k count : ℕ) → k ≤ count → count ≤ length cells
-    → shifted ≡ paste cells 0 (drop k cells) (count - k) → left ≡ paste shifted (count - k) (replicate k 0) k
-    → left ≡ drop k (take count cells) ++ replicate k 0 ++ drop count cells
-consumed_is cells shifted left k count h l s t =
+-- a copy down, then a clearing: k numbers consumed
+pub consumed_is : (cells : List ℕ) (k count : ℕ) {copied zeros : List ℕ} → k ≤ count → count ≤ length cells → length copied ≡ length cells
+    → copied ≡ paste cells 0 (drop k cells) (count - k) → zeros ≡ replicate (length (take (count - (count - k)) (drop (count - k) copied))) 0
+    → put_mid (count - k) (count - (count - k)) copied zeros ≡ drop k (take count cells) ++ replicate k 0 ++ drop count cells
+consumed_is cells k count {copied} {zeros} h l m s z =
     let rest = take (count - k) (drop k cells) in
-    let zeros : List ℕ = replicate k 0 in
+    let blank : List ℕ = replicate k 0 in
     let long : length rest ≡ count - k = length_part cells k (count - k) (omega arith) in
-    let blank : length zeros ≡ k = length-replicate {A = ℕ} k 0 in
-    let all : 0 + length (rest ++ zeros) ≡ count = rw (length-append, long, blank) (omega arith) in
-    let moved : shifted ≡ paste cells 0 rest (length rest) = s ∙ paste-taken cells 0 (drop k cells) (count - k) (rw length-drop (omega arith)) in
-    rw (t, moved)
-    (ap (paste (paste cells 0 rest (length rest)) (count - k) zeros) (sym blank) ∙ paste_behind cells rest zeros 0 (count - k) (omega arith) (omega arith)
-    ∙ paste_all cells 0 (rest ++ zeros) ∙ rw (all, drop-take k count cells))
+    let len : length blank ≡ k = length-replicate {A = ℕ} k 0 in
+    let back : count - (count - k) ≡ k = omega arith in
+    let all : 0 + length (rest ++ blank) ≡ count = rw (length-append, long, len) (omega arith) in
+    let moved : copied ≡ paste cells 0 rest (length rest) = s ∙ paste-taken cells 0 (drop k cells) (count - k) (rw length-drop (omega arith)) in
+    let cleared : zeros ≡ blank = z ∙ ap (λ (n : ℕ). replicate n 0) (rw back (length_part copied (count - k) k (omega arith))) in
+    put_mid-paste (count - k) (count - (count - k)) copied zeros blank (length blank) cleared (len ∙ sym back) refl
+    ∙ rw moved
+    (paste_behind cells rest blank 0 (count - k) (omega arith) (omega arith) ∙ paste_all cells 0 (rest ++ blank) ∙ rw (all, drop-take k count cells))

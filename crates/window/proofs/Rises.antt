@@ -1,23 +1,20 @@
 -- What the test of refusal 12 says of the numbers held, as facts of them; and what follows of membership and of a number's place.
 -- Assumes nothing.
 use Prim.Native.Nat.{ℕ, zero, suc, ◌+◌, ◌-◌, ◌≤◌, ◌<◌, min, zero-le, suc-le-suc}
-use mathlib.Core.Path.{◌≡◌, refl, ap}
+use mathlib.Core.Path.{◌≡◌, refl}
 use mathlib.Core.Bool.{Bool, true, false, not, cond, ◌&&◌, ◌||◌, or-true}
 use mathlib.Core.List.{List, [], ◌∷◌}
 use native.Mathlib.Nat.{le_of_suc-le-suc, not-suc-le-zero}
 use native.Mathlib.Omega.{arith}
-use lib.ListN.{length, take, get_or}
+use lib.ListN.{length, get_or}
+use lib.Seq.{length-take-le}
 use lib.Dec.{ltb, leb, eqb}
 use borrow.Author.Tests.{lt-ltb, le-ltb, le-leb, lt-leb, eq-eqb, ne_eqb, ltb-true, ltb-false, leb-true, leb-false, not-true}
 use Rattle.lists.specs.Numbers.{largest}
 use Rattle.lists.proofs.Tests.{both}
 use Rattle.window.specs.declared.SlidingWindow.{SlidingWindow}
 use Rattle.window.specs.Window.{window_size, expected, below, beyond, exhausted, held, member, rising, holdable, all_holdable, well_formed, place}
-
--- the numbers rise, from lo on and below hi
-abbrev pub Rises : ℕ → ℕ → List ℕ → Type 0
-Rises lo hi [] = Unit
-Rises lo hi (x ∷ xs) = (lo ≤ x) × (x < hi) × Rises (suc x) hi xs
+pub use Rattle.window.specs.Window.{Rises}
 
 -- the first number that is too large for the window, by its distance or by its size
 abbrev pub bound : SlidingWindow → ℕ
@@ -38,6 +35,11 @@ is_holdable w n h =
 
 pub holdable_is : (w : SlidingWindow) (n : ℕ) → expected w ≤ n → n < bound w → holdable w n ≡ true
 holdable_is w n l u = rw (le-ltb n (expected w) l, lt-leb window_size (n - expected w) (omega arith), lt-leb largest n (omega arith))
+
+-- numbers that rise in narrower bounds rise in wider ones
+pub rises_wider : (lo hi from top : ℕ) (xs : List ℕ) → from ≤ lo → hi ≤ top → Rises lo hi xs → Rises from top xs
+rises_wider lo hi from top [] l h r = tt
+rises_wider lo hi from top (x ∷ xs) l h r = (omega arith, omega arith, rises_wider (suc x) hi (suc x) top xs (omega arith) h r.2)
 
 -- the test's two halves as one fact, and back
 rises : (w : SlidingWindow) (xs : List ℕ) → rising xs ≡ true → all_holdable w xs ≡ true → Rises (expected w) (bound w) xs
@@ -69,6 +71,13 @@ well_formed_lem w cells h =
     let f = both (leb w.count (length cells)) (rising (held w cells)) fr.0 in
     record { fits = leb-true w.count (length cells) f.0; rises = rises w (held w cells) f.1 fr.1 }
 
+pub held_fits : (w : SlidingWindow) (cells : List ℕ) → well_formed w cells ≡ true → w.count ≤ length cells
+held_fits w cells h = (well_formed_lem w cells h).fits
+
+-- .. as the searches of an insert and of a consume want them
+pub held_rises : (w : SlidingWindow) (cells : List ℕ) (from : ℕ) → well_formed w cells ≡ true → from ≤ expected w → Rises from largest (held w cells)
+held_rises w cells from h l = rises_wider (expected w) (bound w) from largest (held w cells) l (omega arith) (well_formed_lem w cells h).rises
+
 pub well_formed_is : (w : SlidingWindow) (cells : List ℕ) → WellFormed w cells → well_formed w cells ≡ true
 unfolding well_formed
 well_formed_is w cells h =
@@ -76,14 +85,11 @@ well_formed_is w cells h =
     (all_holdable_lem w (expected w) (held w cells) (omega arith) h.rises)
 
 module _ (hi : ℕ) where
-  -- the number in a cell has at least as many numbers of the range below it
-  pub rises_at : (lo count i : ℕ) (cells : List ℕ) → Rises lo hi (take count cells) → i < count → count ≤ length cells → (lo + i ≤ get_or cells i 0) × (get_or cells i 0 < hi)
-  rises_at lo count i [] r h k = absurd (omega arith)
-  rises_at lo zero i (x ∷ xs) r h k = absurd (not-suc-le-zero h)
-  rises_at lo (suc c) zero (x ∷ xs) r h k = (omega arith, r.1)
-  rises_at lo (suc c) (suc i) (x ∷ xs) r h k =
-      let q = rises_at (suc x) c i xs r.2 (le_of_suc-le-suc h) (le_of_suc-le-suc k) in
-      (omega arith, q.1)
+  -- the number at an index has at least as many numbers of the range below it
+  pub rises_at : (lo i : ℕ) (xs : List ℕ) → Rises lo hi xs → i < length xs → (lo + i ≤ get_or xs i 0) × (get_or xs i 0 < hi)
+  rises_at lo i [] r h = absurd (not-suc-le-zero h)
+  rises_at lo zero (x ∷ xs) r h = (omega arith, r.1)
+  rises_at lo (suc i) (x ∷ xs) r h = let q = rises_at (suc x) i xs r.2 (le_of_suc-le-suc h) in (omega arith, q.1)
 
   -- a number below all of them is none of them
   pub not-below : (lo n : ℕ) (xs : List ℕ) → Rises lo hi xs → n < lo → member n xs ≡ false
@@ -102,17 +108,6 @@ module _ (hi : ℕ) where
           → (eqb x n || member n xs) ≡ false
       by ih true t f = let l = ltb-true x b t in rw (ne_eqb x n (λ q. omega arith)) (ih (λ p. f (suc-le-suc p)))
       by ih false t f = let l : n < x = f (suc-le-suc zero-le) in rw (ne_eqb x n (λ q. omega arith), not-below (suc x) n xs r.2 (omega arith))
-
-  -- where the number in cell i is below n, n's place among those up to it is behind all of them
-  pub place_behind : (lo n count i : ℕ) (cells : List ℕ) → Rises lo hi (take count cells) → i < count → count ≤ length cells → get_or cells i 0 < n
-      → place n (take (suc i) cells) ≡ suc i
-  unfolding place
-  place_behind lo n count i [] r h k l = absurd (omega arith)
-  place_behind lo n zero i (x ∷ xs) r h k l = absurd (not-suc-le-zero h)
-  place_behind lo n (suc c) zero (x ∷ xs) r h k l = rw (lt-ltb x n l)
-  place_behind lo n (suc c) (suc i) (x ∷ xs) r h k l =
-      let q = rises_at (suc x) c i xs r.2 (le_of_suc-le-suc h) (le_of_suc-le-suc k) in
-      rw (lt-ltb x n (omega arith)) (ap suc (place_behind (suc x) n c i xs r.2 (le_of_suc-le-suc h) (le_of_suc-le-suc k) l))
 
 -- a number that stands at an index is one of them
 pub is_member : (n i : ℕ) (xs : List ℕ) → i < length xs → get_or xs i 0 ≡ n → member n xs ≡ true
@@ -140,5 +135,6 @@ few w cells h = by w.count refl
     by zero q = omega arith
     by (suc i) q =
         let wf = well_formed_lem w cells h in
-        let last = rises_at (bound w) (expected w) w.count i cells wf.rises (omega arith) wf.fits in
+        let long = length-take-le w.count cells wf.fits in
+        let last = rises_at (bound w) (expected w) i (held w cells) wf.rises (omega arith) in
         omega arith

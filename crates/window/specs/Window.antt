@@ -1,18 +1,11 @@
 -- Document 01, "From acks to the window", and what refusal 12 means for the window.
 -- A call's definition takes the window and the lent cells as they came, and gives what is said, the window left and the cells left.
-use Rattle.std.specs.Prelude.{ℕ, zero, suc, ◌+◌, ◌-◌, Bool, true, false, not, cond, ◌&&◌, ◌||◌, List, [], ◌∷◌, ◌++◌, length, take, drop, replicate, ltb, leb, eqb}
+use Rattle.std.specs.Prelude.{ℕ, zero, suc, ◌+◌, ◌-◌, ◌≤◌, ◌<◌, Bool, true, false, not, cond, ◌&&◌, ◌||◌, List, [], ◌∷◌, ◌++◌, length, take, drop, replicate, ltb, leb, eqb}
 use Rattle.std.proofs.Math.Option.{Option, none, some}
-use Rattle.refusal.specs.Refusal.{number_of}
 use Rattle.refusal.specs.Said.{Said, answers, refuses, checks}
 use Rattle.lists.specs.Numbers.{largest}
 unfoldable pub use Rattle.lists.specs.Rising.{rising}
 use Rattle.window.specs.declared.SlidingWindow.{SlidingWindow}
-use Rattle.window.specs.declared.Inserted.{Inserted}
-use Rattle.window.specs.declared.Inserted.TheVariants as inserted
-use Rattle.window.specs.declared.RangeInserted.{RangeInserted}
-use Rattle.window.specs.declared.RangeInserted.TheVariants as range
-use Rattle.window.specs.declared.Consumed.{Consumed}
-use Rattle.window.specs.declared.Consumed.TheVariants as consumed
 
 -- "the 40,000"
 abbrev pub window_size : ℕ
@@ -36,6 +29,11 @@ window e k = record { smallest_expected = e; count = k }
 -- "rising numbers in lent 64-bit cells, from the first": the numbers held
 abbrev pub held : SlidingWindow → List ℕ → List ℕ
 held w cells = take w.count cells
+
+-- the numbers rise, from lo on and below hi: what the searches of src/ ask of the numbers held
+abbrev pub Rises : ℕ → ℕ → List ℕ → Type 0
+Rises lo hi [] = Unit
+Rises lo hi (x ∷ xs) = (lo ≤ x) × (x < hi) × Rises (suc x) hi xs
 
 -- n is one of the numbers
 unfoldable pub member : ℕ → List ℕ → Bool
@@ -155,33 +153,3 @@ consume_run w cells k = cond (eqb k 0) (answers none, w, cells) (consumed_run w 
 
 unfoldable pub consume : SlidingWindow → List ℕ → Outcome (Option (ℕ × ℕ))
 consume w cells = unless_malformed w cells (consume_run w cells (run_length (expected w) (held w cells)))
-
--- What each call's answer says, and the window that it leaves where it came with w
-
-abbrev pub inserted_says : Inserted → Said Unit
-inserted_says (inserted.Stored v) = answers tt
-inserted_says (inserted.Refused r) = refuses (number_of r)
-
-abbrev pub window_after_insert : SlidingWindow → Inserted → SlidingWindow
-window_after_insert w (inserted.Stored v) = v
-window_after_insert w (inserted.Refused r) = w
-
-abbrev pub range_inserted_says : RangeInserted → Said Unit
-range_inserted_says (range.Stored v) = answers tt
-range_inserted_says (range.AlreadyHeld v) = refuses 7
-range_inserted_says (range.Refused r) = refuses (number_of r)
-
-abbrev pub window_after_range : SlidingWindow → RangeInserted → SlidingWindow
-window_after_range w (range.Stored v) = v
-window_after_range w (range.AlreadyHeld v) = v
-window_after_range w (range.Refused r) = w
-
-abbrev pub consumed_says : Consumed → Said (Option (ℕ × ℕ))
-consumed_says (consumed.Run last length v) = answers (some (last, length))
-consumed_says consumed.Nothing = answers none
-consumed_says (consumed.Refused r) = refuses (number_of r)
-
-abbrev pub window_after_consume : SlidingWindow → Consumed → SlidingWindow
-window_after_consume w (consumed.Run last length v) = v
-window_after_consume w consumed.Nothing = w
-window_after_consume w (consumed.Refused r) = w

@@ -1,17 +1,20 @@
--- `is_rising`: five neighbours decide whether the numbers from i on rise, or leave it to those from i + 4 on.
-use Rattle.std.proofs.Common.{false, true, sym, ◌∙◌, arith}
-use Rattle.lists.proofs.Rising.{rising_five}
+-- `is_rising`: five neighbours decide, or leave it to the numbers from the fifth on.
+use Rattle.std.proofs.Common.{ltb, sym, ap, ◌∙◌, rules}
+use Rattle.std.proofs.lemmas.List.{take_rest}
+use Rattle.std.proofs.lemmas.List.Sorted.{answers_always}
+use Rattle.lists.specs.Rising.{rising}
+use Rattle.window.proofs.Loops.{rising_five, rising_adjacent}
 use Rattle.window.proofs.is_rising.Goals as goal
 
-pub returns-then-not-five_rise : goal.returns-then-not-five_rise
-returns-then-not-five_rise c =
-    let a = c.args in
-    sym (c.loop-i.invariant.same ∙ rising_five a.cells.now a.count c.loop-i.i false (omega arith) (omega arith) c.if-not-five_rise.ensures)
+pub returns-then-not-a-b : goal.returns-then-not-a-b
+returns-then-not-a-b c =
+    sym (c.loop-rest.invariant ∙ rising_five _ c.in-len5-up.len_at_least ∙ rw c.if-not-a-b.true)
 
-pub loop-i-preserved : goal.loop-i-preserved
-loop-i-preserved c =
-    let a = c.args in
-    record {
-      within = omega arith;
-      same = c.loop-i.invariant.same ∙ rising_five a.cells.now a.count c.loop-i.i true (omega arith) (omega arith) c.if-not-five_rise.ensures;
-    }
+pub loop-rest-preserved : goal.loop-rest-preserved
+loop-rest-preserved c =
+    c.loop-rest.invariant ∙ rising_five _ c.in-len5-up.len_at_least ∙ rw c.if-not-a-b.false (ap rising (sym (take_rest c.loop-rest.rest.now 4)))
+
+pub returns : goal.returns
+returns c =
+    rising_adjacent _ _ (c.is_sorted_by.ensures.cases ltb (answers_always _ _ _ (λ f a r g h. search rules)))
+    ∙ sym c.loop-rest.invariant

@@ -1,13 +1,10 @@
--- `is_rising`: all numbers rise if those from i on do.
-use Rattle.std.proofs.Common.{◌≡◌, ◌≤◌, ◌-◌, take, drop}
-use Rattle.window.specs.Window.{rising}
+-- `is_rising`: all numbers rise if the rest do.
+use Rattle.std.proofs.Common.{◌≡◌, length}
+use Rattle.lists.specs.Rising.{rising}
 use Rattle.window.proofs.is_rising.Given as goal
 
-abbrev pub invariant-loop-i : goal.invariant-loop-i
-invariant-loop-i l = record {
-  within : l.i ≤ l.count;
-  same : rising (take l.count l.cells) ≡ rising (drop l.i (take l.count l.cells));
-}
+abbrev pub invariant-loop-rest : goal.invariant-loop-rest
+invariant-loop-rest l = rising l.numbers ≡ rising l.rest
 
-abbrev pub decreases-loop-i : goal.decreases-loop-i
-decreases-loop-i l = l.count - l.i
+abbrev pub decreases-loop-rest : goal.decreases-loop-rest
+decreases-loop-rest l = length l.rest

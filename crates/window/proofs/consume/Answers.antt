@@ -1,8 +1,0 @@
--- `consume`: where the test of 12 fails, the definition says 12.
-use Rattle.std.proofs.Common.{sym}
-use Rattle.window.specs.Window.{consume}
-use Rattle.window.proofs.consume.Goals as goal
-
-pub returns-then-not-well_formed : goal.returns-then-not-well_formed
-unfolding consume
-returns-then-not-well_formed c = simp (sym c.if-not-well_formed.ensures)
