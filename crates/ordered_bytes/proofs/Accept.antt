@@ -1,7 +1,7 @@
 -- Accepting in the code's steps: the first two refusals, and for a number that has a slot what is left to check, on the lent lists.
 -- Assumes nothing.
 use Prim.Native.Nat.{ℕ, ◌-◌, ◌≤◌, ◌<◌}
-use mathlib.Core.Path.{◌≡◌}
+use mathlib.Core.Path.{◌≡◌, ap, ◌∙◌}
 use mathlib.Core.Bool.{true, false}
 use mathlib.Core.Option.{none}
 use mathlib.Core.List.{List, [], ◌∷◌}
@@ -34,7 +34,10 @@ module _ (b : Buffer) (n : ℕ) (payload : List ℕ) (well : well_formed b ≡ t
   unfolding accepting
   refuses_beyond low far = simp (well, view-front b, length-held b, le-ltb _ _ low, le-leb _ _ far)
 
-  pub accepts_near : {slot : ℕ} → b.state.front_number ≤ n → n - b.state.front_number < slots b → slot ≡ slot_at b (n - b.state.front_number)
+  -- in the slot at its distance, of a view of the buffer
+  pub accepts_near : {v : Buffer} {slot : ℕ} → b.state.front_number ≤ n → n - b.state.front_number < slots b → v ≡ b → slot ≡ slot_at v (n - b.state.front_number)
       → accepting b n payload ≡ accepting_in slot b n payload
   unfolding accepting
-  accepts_near low near here = rw here (simp (well, view-front b, view-width b, length-held b, le-ltb _ _ low, lt-leb _ _ near, mark_at b near))
+  accepts_near low near same here =
+      rw (here ∙ ap (λ (x : Buffer). slot_at x (n - b.state.front_number)) same)
+      (simp (well, view-front b, view-width b, length-held b, le-ltb _ _ low, lt-leb _ _ near, mark_at b near))

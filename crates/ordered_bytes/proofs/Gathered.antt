@@ -1,23 +1,23 @@
 -- The pieces that `consume_bytes` takes, as the code counts and copies them.
 -- Assumes nothing.
-use Prim.Native.Nat.{ℕ, suc, ◌+◌, ◌-◌, ◌≤◌}
+use Prim.Native.Nat.{ℕ, suc, ◌+◌, ◌-◌, ◌≤◌, ◌<◌}
 use mathlib.Core.Path.{◌≡◌, refl, sym, ap, ◌∙◌}
 use mathlib.Core.Bool.{Bool, true, false, cond}
-use mathlib.Core.List.{List, [], ◌∷◌, ◌++◌, map}
+use mathlib.Core.Logic.{◌⊎◌, inl, inr}
+use mathlib.Core.List.{List, [], ◌∷◌, ◌++◌, map, flatten}
 use native.Mathlib.Omega.{arith}
 use lib.ListN.{length, set, length-append}
 use lib.Seq.{paste}
 use lib.Dec.{eqb, eqb-suc-zero}
-use borrow.Author.Tests.{ltb-false}
-use Rattle.refusal.specs.Said.{Said, answers, refuses, checks}
-use Rattle.refusal.proofs.Checks.{Passed, Checked, passes, fails, checked}
+use borrow.Author.Tests.{lt-ltb, le-ltb, ne_eqb}
+use Rattle.refusal.specs.Said.{answers, refuses}
 use Rattle.lists.proofs.Cut.{paste-cons}
 use Rattle.ordered_bytes.specs.declared.pieces.Payloads.{Payloads}
-use Rattle.ordered_bytes.specs.declared.pieces.Pieces.{Pieces}
+use Rattle.ordered_bytes.specs.declared.ConsumeResult.{ConsumeResult}
 use Rattle.ordered_bytes.specs.Receiver.{carry_piece, taken_payloads, pieces, base}
 use Rattle.ordered_bytes.specs.Buffer.{Buffer, view, well_formed, taken}
-use Rattle.ordered_bytes.specs.Calls.{PieceConsumption, given_pieces, consuming_bytes}
-use Rattle.ordered_bytes.specs.Steps.{held_payloads, pieces_of, PayloadsCounted, PiecesCounted, RoomFor, PiecesCopied, piece_checks, pieces_says}
+use Rattle.ordered_bytes.specs.Calls.{PieceConsumption, result_says, consuming_bytes}
+use Rattle.ordered_bytes.specs.Steps.{held_payloads, pieces_of, PayloadsCounted, PiecesCounted, RoomFor, PiecesCopied}
 use Rattle.ordered_bytes.proofs.WellFormed.{Good}
 use Rattle.ordered_bytes.proofs.View.{length-carry}
 use Rattle.ordered_bytes.proofs.Walk.{payloads_again, flatten_carry, flatten_pieces}
@@ -54,7 +54,7 @@ module _ {b : Buffer} (g : Good b) where
       → most ≡ limit - first
       → PayloadsCounted (held_payloads b most) p
       → from ≡ base (view b)
-      → PiecesCounted b limit (record { packets = p.packets; pieces = first + p.packets; bytes = b.state.carry_len + p.bytes; base = from })
+      → PiecesCounted b limit (record { num_packets_consumed = p.packets; base_packet_number = from; bytes_consumed = b.state.carry_len + p.bytes }) (first + p.packets)
   pieces-counted limit {first} {most} one rest counted based =
       let same : first ≡ length (carry_piece (view b).carry) = one ∙ sym carried in
       let all : held_payloads b most ≡ taken_payloads (view b) limit = rw (rest, same) in
@@ -88,60 +88,32 @@ module _ (b : Buffer) (limit : ℕ) {k : ℕ} (packets : k ≡ length (taken_pay
 
 -- ---- the answer, decided before anything moves
 
-module _ {A : Type 0} (v : A) where
-  -- an answer has passed the checks
-  said_passed : (cs : List (Bool × ℕ)) {w : A} → answers w ≡ checks cs refuses (answers v) → Passed cs × (w ≡ v)
-  said_passed cs {w} e = by (checked refuses (answers v) cs)
-    where
-      by : Checked cs refuses (answers v) → Passed cs × (w ≡ v)
-      by (passes p q) = let z : answers w ≡ answers v = e ∙ q in (p, cc)
-      by (fails n f q) = let z : answers w ≡ refuses n = e ∙ q in absurd (let y : ◌≡◌ {A = ℕ} 0 1 = cc in omega arith)
-
-  -- a refusal is the number of the first that holds
-  said_failed : {B : Type 0} (cs : List (Bool × ℕ)) {n : ℕ} (refused : ℕ → B) (passed : B) → refuses n ≡ checks cs refuses (answers v) → checks cs refused passed ≡ refused n
-  said_failed [] {n} refused passed e = absurd (let y : ◌≡◌ {A = ℕ} 0 1 = cc in omega arith)
-  said_failed {B = B} (c ∷ cs) {n} refused passed e = by c.0 refl (said_failed cs refused passed)
-    where
-      by : (b : Bool) → c.0 ≡ b → (refuses n ≡ checks cs refuses (answers v) → checks cs refused passed ≡ refused n) → checks (c ∷ cs) refused passed ≡ refused n
-      by true t later = let z : refuses n ≡ refuses c.1 = rw t at e in let y : n ≡ c.1 = cc in rw (t, y)
-      by false t later = rw t (later (rw t at e))
-
-module _ (b : Buffer) (limit : ℕ) (out list : List ℕ) {p : Pieces} (well : well_formed b ≡ true) (counted : PiecesCounted b limit p) where
-  abbrev cs : List (Bool × ℕ)
-  cs = piece_checks (length out) (length list) p.bytes p.pieces
-
-  abbrev Decided : Said ((ℕ × ℕ × ℕ) × ℕ) → Type 0
-  Decided said = ◌≡◌ {A = Said ((ℕ × ℕ × ℕ) × ℕ)} said (checks cs refuses (answers (pieces_says p)))
-
-  abbrev refusing : ℕ → PieceConsumption
-  refusing r = record { said = refuses r; buffer = b; out = out; list = list }
-
-  -- a refusal leaves all as it came
-  pub pieces-refused : {said : Said ((ℕ × ℕ × ℕ) × ℕ)} {r : ℕ} → said ≡ refuses r → Decided said
-      → ◌≡◌ {A = PieceConsumption} (record { said = said; buffer = b; out = out; list = list }) (consuming_bytes b limit out list)
+module _ (b : Buffer) (limit : ℕ) (out list : List ℕ) {p : ConsumeResult} {count : ℕ} (well : well_formed b ≡ true) (counted : PiecesCounted b limit p count) where
+  -- "10 if either is short"
+  pub pieces_short : (length out < p.bytes_consumed) ⊎ ((p.bytes_consumed ≤ length out) × (length list < count))
+      → ◌≡◌ {A = PieceConsumption} (record { said = refuses 10; buffer = b; out = out; list = list }) (consuming_bytes b limit out list)
   unfolding consuming_bytes
-  pieces-refused says e =
-      let decided = said_failed (pieces_says p) cs refusing (given_pieces b limit out list) (rw says at e) in
-      rw (well, says) (sym (rw (counted.all, counted.bytes) at decided))
+  pieces_short (inl less) = rw (well, ← counted.bytes, lt-ltb _ _ less)
+  pieces_short (inr fewer) = rw (well, ← counted.bytes, ← counted.all, le-ltb _ _ fewer.0, lt-ltb _ _ fewer.1)
+
+  -- "no piece: 8"
+  pub pieces_none : p.bytes_consumed ≤ length out → count ≤ length list → count ≡ 0
+      → ◌≡◌ {A = PieceConsumption} (record { said = refuses 8; buffer = b; out = out; list = list }) (consuming_bytes b limit out list)
+  unfolding consuming_bytes
+  pieces_none fits few none = rw (well, ← counted.bytes, ← counted.all, le-ltb _ _ fits, le-ltb _ _ few, none)
 
   -- there is room for what is answered
-  pub pieces_room : {said : Said ((ℕ × ℕ × ℕ) × ℕ)} {w : (ℕ × ℕ × ℕ) × ℕ} → said ≡ answers w → Decided said → RoomFor (pieces_of b p.packets) out 0 list 0
-  pieces_room says e =
-      let q = (said_passed (pieces_says p) cs (rw says at e)).0 in
-      let fits : p.bytes ≤ length out = ltb-false _ _ q.0 in
-      let few : p.pieces ≤ length list = ltb-false _ _ q.1.0 in
-      rw (again_pieces b limit counted.packets) (record { bytes = omega arith; cells = omega arith })
+  pub pieces_room : p.bytes_consumed ≤ length out → count ≤ length list → RoomFor (pieces_of b p.num_packets_consumed) out 0 list 0
+  pieces_room fits few = rw (again_pieces b limit counted.packets) (record { bytes = omega (arith, counted.bytes); cells = omega (arith, counted.all) })
 
   -- the answer, the buffer, the output and the list
-  pub pieces-given : {said : Said ((ℕ × ℕ × ℕ) × ℕ)} {w : (ℕ × ℕ × ℕ) × ℕ} {out' list' : List ℕ} {after : Buffer}
-      → said ≡ answers w
-      → Decided said
-      → after ≡ taken b p.packets []
-      → PiecesCopied (pieces_of b p.packets) out out' 0 list list' 0
-      → ◌≡◌ {A = PieceConsumption} (record { said = said; buffer = after; out = out'; list = list' }) (consuming_bytes b limit out list)
+  pub pieces-given : {out' list' : List ℕ} {after : Buffer} → p.bytes_consumed ≤ length out → count ≤ length list → (count ≡ 0 → ⊥)
+      → after ≡ taken b p.num_packets_consumed []
+      → PiecesCopied (pieces_of b p.num_packets_consumed) out out' 0 list list' 0
+      → ◌≡◌ {A = PieceConsumption} (record { said = answers (result_says p, count); buffer = after; out = out'; list = list' }) (consuming_bytes b limit out list)
   unfolding consuming_bytes
-  pieces-given says e left copied =
-      let passed = said_passed (pieces_says p) cs (rw says at e) in
-      let q = rw (counted.all, counted.bytes) at passed.0 in
+  pieces-given fits few some left copied =
       let c = rw (again_pieces b limit counted.packets) at copied in
-      rw (well, q.0, q.1.0, q.1.1.0, says, left, c.bytes, c.cells, passed.1, counted.packets, counted.bytes, counted.all, counted.front)
+      let room : length (flatten (pieces (view b) limit)) ≤ length out = rw counted.bytes at fits in
+      let cells : length (pieces (view b) limit) ≤ length list = rw counted.all at few in
+      rw (well, le-ltb _ _ room, le-ltb _ _ cells, ne_eqb _ _ (rw counted.all at some), left, c.bytes, c.cells, counted.packets, counted.bytes, counted.all, counted.front)

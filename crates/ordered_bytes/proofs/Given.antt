@@ -9,21 +9,23 @@ use native.Mathlib.Omega.{arith}
 use lib.ListN.{length, take, drop, length-append}
 use lib.Seq.{paste, length-take-le}
 use lib.Dec.{eqb, ltb}
-use borrow.Author.Tests.{ltb-true, lt-ltb, le-ltb}
-use Rattle.refusal.specs.Said.{Said, answers, refuses}
+use borrow.Author.Tests.{ltb-true}
+use Rattle.std.specs.Prelude.{Result, Ok}
+use Rattle.refusal.specs.declared.Refusal.{Refusal}
+use Rattle.refusal.specs.Said.{answers, refuses}
 use Rattle.lists.specs.Numbers.{largest}
 use Rattle.lists.proofs.Paste.{paste_behind}
 use Rattle.lists.proofs.Cut.{take-cut, drop-cut, paste_part}
 use Rattle.ordered_bytes.specs.Receiver.{walk, payloads, numbers_fit, base, consumed}
 use Rattle.ordered_bytes.specs.Buffer.{Buffer, slots, width, view, taken}
-use Rattle.ordered_bytes.specs.Calls.{given}
+use Rattle.ordered_bytes.specs.Calls.{consumed_says, given}
 use Rattle.ordered_bytes.specs.Steps.{WalkCopied, ReadCopied}
 use Rattle.ordered_bytes.specs.declared.stream.Walked.{Walked}
 use Rattle.ordered_bytes.specs.declared.stream.BytesRead.{BytesRead}
+use Rattle.ordered_bytes.specs.declared.ConsumeResult.{ConsumeResult}
 use Rattle.ordered_bytes.proofs.WellFormed.{Good, is_fits}
-use Rattle.lists.proofs.Order.{either}
 use Rattle.ordered_bytes.proofs.View.{length-carry, store_long}
-use Rattle.ordered_bytes.proofs.Walk.{consumed_part, consumed-whole, consumed_took}
+use Rattle.ordered_bytes.proofs.Walk.{consumed_part, consumed-whole}
 
 -- ---- the numbers of taken packets are below the largest
 
@@ -41,9 +43,6 @@ fit_payloads n (suc k) (some p ∷ h) l e =
 module _ {b : Buffer} (g : Good b) where
   pub payloads_fit : (k : ℕ) → b.state.front_number ≤ largest → b.state.front_number + length (payloads k (view b).held) ≤ largest
   payloads_fit k l = fit_payloads b.state.front_number k (view b).held l (is_fits b.state.front_number (view b).held g.numbers)
-
-  pub consumed_fits : (len : ℕ) → b.state.front_number ≤ largest → b.state.front_number + (consumed (view b) len).packets ≤ largest
-  consumed_fits len l = rw (consumed_took (view b) len).were at (payloads_fit (consumed (view b) len).packets l)
 
   -- ---- the carry-over
 
@@ -72,7 +71,12 @@ module _ {b : Buffer} (g : Good b) (len : ℕ) (out : List ℕ) where
   -- "A carry-over longer than the length gives that many bytes"
   pub part_read : {out' : List ℕ} {part : ℕ} → len < b.state.carry_len → part ≡ min b.state.carry_len len
       → out' ≡ paste out 0 (drop (slots b * width b) b.store) part
-      → ReadCopied b len out out' (record { packets = 0; base = 0; bytes = len; rest_at = slots b * width b + len; rest = b.state.carry_len - len })
+      → ReadCopied b len out out' (record {
+        answer = Ok (record { num_packets_consumed = 0; base_packet_number = 0; bytes_consumed = len });
+        packets = 0;
+        rest_at = slots b * width b + len;
+        rest = b.state.carry_len - len;
+      })
   part_read {out'} {part} less cut pasted =
       let at = slots b * width b in
       let some : min b.state.carry_len len ≡ len = omega arith in
@@ -81,50 +85,39 @@ module _ {b : Buffer} (g : Good b) (len : ℕ) (out : List ℕ) where
       let long : length (take len (view b).carry) ≡ len = length-take-le len (view b).carry (rw (length-carry g) (omega arith)) in
       let rest : take (b.state.carry_len - len) (drop (at + len) b.store) ≡ drop len (view b).carry =
       sym (rw (view-carry g, drop-cut len b.state.carry_len at b.store, some)) in
-      let gave : out' ≡ paste out 0 (take len (view b).carry) len =
-      rw all at pasted ∙ paste_part out (drop at b.store) (take len (view b).carry) 0 len bytes long ∙ ap (paste out 0 (take len (view b).carry)) long in
+      let gave : out' ≡ paste out 0 (take len (view b).carry) (length (take len (view b).carry)) =
+      rw all at pasted ∙ paste_part out (drop at b.store) (take len (view b).carry) 0 len bytes long in
       rw (consumed_part (view b) len (rw (length-carry g) less))
       (record {
+        answer = rw long;
         packets = refl;
-        base = refl;
-        bytes = sym long;
         copied = gave;
         carry = record { are = rest; within = omega (arith, carry_in g); small = omega (arith, g.carry_w) };
       })
 
   -- "Otherwise the carry-over is taken whole, then held packets"
-  pub whole_read : {w : Walked} {out₁ out' : List ℕ} {part from : ℕ} → b.state.carry_len ≤ len → len ≤ length out → part ≡ min b.state.carry_len len
+  pub whole_read : {w : Walked} {out₁ out' : List ℕ} {part from : ℕ} {answer : Result ConsumeResult Refusal} → b.state.carry_len ≤ len → len ≤ length out
+      → part ≡ min b.state.carry_len len
       → out₁ ≡ paste out 0 (drop (slots b * width b) b.store) part
       → WalkCopied b (len - b.state.carry_len) b.state.carry_len out₁ out' w
       → from ≡ base (view b)
-      → ReadCopied b len out out' (record { packets = w.packets; base = from; bytes = b.state.carry_len + w.bytes; rest_at = w.rest_at; rest = w.rest })
-  whole_read {w} {out₁} {out'} {part} whole room cut first e based =
+      → (let bytes = b.state.carry_len + w.bytes in consumed_says answer ≡ cond (eqb bytes 0) (refuses 8) (answers (w.packets, from, bytes)))
+      → ReadCopied b len out out' (record { answer = answer; packets = w.packets; rest_at = w.rest_at; rest = w.rest })
+  whole_read {w} {out₁} {out'} {part} whole room cut first e based says =
       let c = b.state.carry_len in
       let x = (walk (len - c) (view b).held).bytes in
       let all : part ≡ c = omega arith in
       let long : c + w.bytes ≡ length ((view b).carry ++ x) = sym (rw (length-append, length-carry g, e.bytes)) in
-      let gave : out' ≡ paste out 0 ((view b).carry ++ x) (length ((view b).carry ++ x)) =
-      carry_then g x out (omega arith) (rw all at first) (e.copied ∙ ap (paste out₁ c x) e.bytes) in
       rw (consumed-whole (view b) len (rw (length-carry g) whole), length-carry g)
       (record {
+        answer = says ∙ rw (long, e.packets, based);
         packets = e.packets;
-        base = based;
-        bytes = long;
-        copied = gave ∙ ap (paste out 0 ((view b).carry ++ x)) (sym long);
+        copied = carry_then g x out (omega arith) (rw all at first) (e.copied ∙ ap (paste out₁ c x) e.bytes);
         carry = e.rest;
       })
 
   -- the answer, the buffer and the output
-  pub read_given : {r : BytesRead} {said : Said (ℕ × ℕ × ℕ)} {out' : List ℕ} {after : Buffer} → ReadCopied b len out out' r → let v : ℕ × ℕ × ℕ = (r.packets, r.base, r.bytes) in
-      said ≡ cond (ltb len b.state.carry_len) (answers v) (cond (eqb r.bytes 0) (refuses 8) (answers v))
+  pub read_given : {r : BytesRead} {out' : List ℕ} {after : Buffer} → ReadCopied b len out out' r
       → after ≡ taken b r.packets (take r.rest (drop r.rest_at b.store))
-      → record { said = said; buffer = after; out = out' } ≡ given b (consumed (view b) len) out
-  read_given e say left =
-      let c = b.state.carry_len in
-      either c len
-      (λ whole.
-      let is = consumed-whole (view b) len (rw (length-carry g) whole) in
-      rw (left, e.copied, say, e.packets, e.bytes, e.carry.are, e.base, le-ltb len c whole, is))
-      (λ part.
-      let is = consumed_part (view b) len (rw (length-carry g) part) in
-      rw (left, e.copied, say, e.packets, e.bytes, e.carry.are, e.base, lt-ltb len c part, is))
+      → record { said = consumed_says r.answer; buffer = after; out = out' } ≡ given b (consumed (view b) len) out
+  read_given e left = rw (left, e.answer, e.copied, e.packets, e.carry.are)

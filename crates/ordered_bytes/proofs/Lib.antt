@@ -10,7 +10,6 @@ pub mod Places
 pub mod Tests
 pub mod Loops
 pub mod Payloads
-pub mod Taken
 pub mod Given
 pub mod Gathered
 pub mod Accept

@@ -1,17 +1,18 @@
 -- What the tests of the calls ask of the receiver, read off the lent lists: front, widths, lengths, and which places are held.
 -- Assumes nothing.
 use Prim.Native.Nat.{ℕ, ◌<◌}
-use mathlib.Core.Path.{◌≡◌, refl, sym, ap, ◌∙◌}
-use mathlib.Core.Bool.{Bool, true, false, cond}
+use mathlib.Core.Path.{◌≡◌, refl, ap, ◌∙◌}
+use mathlib.Core.Bool.{Bool, true, false, cond, ◌||◌}
 use mathlib.Core.Option.{none, some}
-use mathlib.Core.List.{List, []}
+use mathlib.Core.List.{List}
 use native.Mathlib.Omega.{arith}
 use lib.ListN.{get_or}
-use Rattle.ordered_bytes.specs.Receiver.{is_held, place_at, base}
-use Rattle.ordered_bytes.specs.Buffer.{Buffer, buffer_of, slots, width, slot_at, view}
-use Rattle.ordered_bytes.proofs.WellFormed.{Good}
+use lib.Dec.{ltb}
+use Rattle.ordered_bytes.specs.Receiver.{is_held, place_at, base, available}
+use Rattle.ordered_bytes.specs.Buffer.{Buffer, slots, width, slot_at, view, well_formed}
+use Rattle.ordered_bytes.proofs.WellFormed.{Good, good}
 use Rattle.slots.proofs.Ring.{wrap-zero}
-use Rattle.ordered_bytes.proofs.View.{held_at}
+use Rattle.ordered_bytes.proofs.View.{held_at, length-carry}
 
 pub held_mark : (m : Bool) (p : List ℕ) → is_held (cond m (some p) none) ≡ m
 held_mark true p = refl
@@ -43,6 +44,6 @@ module _ {b : Buffer} (g : Good b) where
   pub front_mark : is_held (place_at (view b) 0) ≡ get_or b.marks b.state.front_slot false
   front_mark = mark_at b g.shape.some_slots ∙ ap (λ (i : ℕ). get_or b.marks i false) front_at
 
-  -- the marks alone say the base
-  pub base_by_marks : base (view b) ≡ base (view (buffer_of b.state b.marks [] []))
-  base_by_marks = base_at b g.front_n ∙ sym (base_at (buffer_of b.state b.marks [] []) g.front_n)
+-- whether there is something to read, by the carry-over's length and the front slot's mark
+pub available_at : (b : Buffer) → well_formed b ≡ true → available (view b) ≡ (ltb 0 b.state.carry_len || get_or b.marks b.state.front_slot false)
+available_at b well = let g = good well in rw (length-carry g, front_mark g)

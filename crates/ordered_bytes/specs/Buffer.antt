@@ -1,9 +1,11 @@
 -- The receive buffer as it lies in lent memory: which receiver it means, refusal 12's test, and how a change of the receiver is written back.
 -- Document 01, "From packets to the reader" and the refusal table. What concerns the slots alone is said in crates/slots.
-use Rattle.std.specs.Prelude.{ℕ, zero, suc, ◌+◌, ◌*◌, Bool, true, false, cond, ◌&&◌, List, [], ◌∷◌, length, take, drop, set, get_or, ltb, leb}
+use Rattle.std.specs.Prelude.{ℕ, zero, suc, ◌≡◌, ◌+◌, ◌*◌, Bool, true, false, cond, ◌&&◌, List, [], ◌∷◌, length, take, drop, set, get_or, ltb, leb}
 use Rattle.std.proofs.Math.Option.{Option, none, some}
 use Rattle.std.proofs.Math.Seq.{paste}
 use Rattle.ordered_bytes.specs.declared.OrderedBytes.{OrderedBytes}
+use Rattle.ordered_bytes.specs.declared.BufferView.{BufferView}
+use Rattle.ordered_bytes.specs.declared.BufferViewMut.{BufferViewMut}
 use Rattle.ordered_bytes.specs.Receiver.{Receiver, numbers_fit}
 pub use Rattle.slots.specs.Slots.{wrap, cleared, between, shape_fits}
 unfoldable pub use Rattle.lists.specs.Within.{all_within}
@@ -17,6 +19,17 @@ pub record Buffer : Type 0 where
 
 abbrev pub buffer_of : OrderedBytes → List Bool → List ℕ → List ℕ → Buffer
 buffer_of o marks lengths store = record { state = o; marks = marks; lengths = lengths; store = store }
+
+-- .. as a view of it has them: one to read, and one to change, as it stands
+abbrev pub buffer_in : BufferView → Buffer
+buffer_in v = buffer_of v.state v.marks.now v.lengths.now v.store.now
+
+abbrev pub buffer_now : BufferViewMut → Buffer
+buffer_now v = buffer_of v.state v.marks.now v.lengths.now v.store.now
+
+-- the second view is lent the very memory that the first one is: what is written through it, the lender finds
+abbrev pub SameLent : BufferViewMut → BufferViewMut → Type 0
+SameLent a b = (b.marks.ghost_name ≡ a.marks.ghost_name) × (b.lengths.ghost_name ≡ a.lengths.ghost_name) × (b.store.ghost_name ≡ a.store.ghost_name)
 
 -- N
 abbrev pub slots : Buffer → ℕ

@@ -1,64 +1,40 @@
 -- What each call of the receive buffer says and leaves, on every input: decode the lent lists, apply document 01's rule, write the change back.
-use Rattle.std.specs.Prelude.{ℕ, ◌-◌, Bool, false, not, cond, List, [], ◌∷◌, map, length, replicate, ltb, eqb}
+use Rattle.std.specs.Prelude.{ℕ, ◌-◌, Bool, false, not, cond, List, [], ◌∷◌, map, length, replicate, ltb, eqb, Result, Ok, Err}
 use Rattle.std.proofs.Math.Option.{Option, none, some}
 use Rattle.std.proofs.Math.Seq.{paste}
+use Rattle.refusal.specs.declared.Refusal.{Refusal}
 use Rattle.refusal.specs.Refusal.{number_of}
-use Rattle.refusal.specs.Said.{Said, answers, refuses, checks}
+use Rattle.refusal.specs.Said.{Said, answers, refuses, says, checks}
 use Rattle.ordered_bytes.specs.declared.OrderedBytes.{OrderedBytes}
+use Rattle.ordered_bytes.specs.declared.BufferViewMut.{BufferViewMut}
 use Rattle.ordered_bytes.specs.declared.ConsumeResult.{ConsumeResult}
-use Rattle.ordered_bytes.specs.declared.Created.{Created}
-use Rattle.ordered_bytes.specs.declared.Created.TheVariants as created
-use Rattle.ordered_bytes.specs.declared.Started.{Started}
-use Rattle.ordered_bytes.specs.declared.Started.TheVariants as started
-use Rattle.ordered_bytes.specs.declared.Accepted.{Accepted}
-use Rattle.ordered_bytes.specs.declared.Accepted.TheVariants as accept
-use Rattle.ordered_bytes.specs.declared.Peeked.{Peeked}
-use Rattle.ordered_bytes.specs.declared.Peeked.TheVariants as peeked
-use Rattle.ordered_bytes.specs.declared.ConsumeAnswer.{ConsumeAnswer}
-use Rattle.ordered_bytes.specs.declared.ConsumeAnswer.TheVariants as consume
-use Rattle.ordered_bytes.specs.declared.ConsumeBytesAnswer.{ConsumeBytesAnswer}
-use Rattle.ordered_bytes.specs.declared.ConsumeBytesAnswer.TheVariants as consume_bytes
-use Rattle.ordered_bytes.specs.declared.Consumed.{Consumed}
-use Rattle.ordered_bytes.specs.declared.ConsumedBytes.{ConsumedBytes}
+use Rattle.ordered_bytes.specs.declared.AcceptError.{AcceptError}
+use Rattle.ordered_bytes.specs.declared.AcceptError.TheVariants.{Below, Refused}
 use Rattle.ordered_bytes.specs.Receiver.{Read, accept_checks, consumed, consumed_pieces, pieces, available, any_held}
-use Rattle.ordered_bytes.specs.Buffer.{Buffer, buffer_of, view, well_formed, shape_fits, slot_at, stored, taken}
+use Rattle.ordered_bytes.specs.Buffer.{Buffer, buffer_now, view, well_formed, shape_fits, slot_at, stored, taken}
 
 -- ---- the answers in document 01's terms
-
-abbrev pub created_says : Created → Said OrderedBytes
-created_says (created.Buffer o) = answers o
-created_says (created.Refused r) = refuses (number_of r)
-
-abbrev pub started_says : Started → Said OrderedBytes
-started_says (started.Buffer o) = answers o
-started_says (started.Refused r) = refuses (number_of r)
-
-abbrev pub accepted_says : Accepted → Said Unit
-accepted_says accept.Stored = answers tt
-accepted_says (accept.Below c) = refuses 5
-accepted_says (accept.Refused r) = refuses (number_of r)
-
-abbrev pub peeked_says : Peeked → Said Unit
-peeked_says peeked.Available = answers tt
-peeked_says (peeked.Refused r) = refuses (number_of r)
 
 -- (packets, base, bytes)
 abbrev pub result_says : ConsumeResult → ℕ × ℕ × ℕ
 result_says c = (c.num_packets_consumed, c.base_packet_number, c.bytes_consumed)
 
-abbrev pub accepted_ack : Accepted → Option (ℕ × ℕ × ℕ)
-accepted_ack accept.Stored = none
-accepted_ack (accept.Below c) = some (result_says c)
-accepted_ack (accept.Refused r) = none
+abbrev pub accepted_says : Result Unit AcceptError → Said Unit
+accepted_says (Ok u) = answers tt
+accepted_says (Err (Below c)) = refuses 5
+accepted_says (Err (Refused r)) = refuses (number_of r)
 
-abbrev pub consumed_says : ConsumeAnswer → Said (ℕ × ℕ × ℕ)
-consumed_says (consume.Given c) = answers (result_says c)
-consumed_says (consume.Refused r) = refuses (number_of r)
+abbrev pub accepted_ack : Result Unit AcceptError → Option (ℕ × ℕ × ℕ)
+accepted_ack (Ok u) = none
+accepted_ack (Err (Below c)) = some (result_says c)
+accepted_ack (Err (Refused r)) = none
+
+abbrev pub consumed_says : Result ConsumeResult Refusal → Said (ℕ × ℕ × ℕ)
+consumed_says r = says result_says r
 
 -- "The answer is `consume`'s, with the count of pieces."
-abbrev pub consumed_bytes_says : ConsumeBytesAnswer → Said ((ℕ × ℕ × ℕ) × ℕ)
-consumed_bytes_says (consume_bytes.Given c pieces) = answers (result_says c, pieces)
-consumed_bytes_says (consume_bytes.Refused r) = refuses (number_of r)
+abbrev pub consumed_bytes_says : Result (ConsumeResult × ℕ) Refusal → Said ((ℕ × ℕ × ℕ) × ℕ)
+consumed_bytes_says r = says (λ p. (result_says p.0, p.1)) r
 
 -- ---- the calls
 
@@ -69,8 +45,8 @@ pub record Creation : Type 0 where
   pub lengths : List ℕ
 
 -- what a call answered, and the lent lists as it left them, are one such record
-abbrev pub creation_of : Created → List Bool → List ℕ → Creation
-creation_of r marks lengths = record { said = created_says r; marks = marks; lengths = lengths }
+abbrev pub creation_of : Result OrderedBytes Refusal → List Bool → List ℕ → Creation
+creation_of r marks lengths = record { said = says (λ o. o) r; marks = marks; lengths = lengths }
 
 unfoldable pub creating : ℕ → ℕ → List Bool → List ℕ → List ℕ → Creation
 creating w s marks lengths store =
@@ -100,8 +76,8 @@ pub record Acceptance : Type 0 where
   pub ack : Option (ℕ × ℕ × ℕ)
   pub buffer : Buffer
 
-abbrev pub acceptance_of : Accepted → OrderedBytes → List Bool → List ℕ → List ℕ → Acceptance
-acceptance_of r o marks lengths store = record { said = accepted_says r; ack = accepted_ack r; buffer = buffer_of o marks lengths store }
+abbrev pub acceptance_of : Result Unit AcceptError → BufferViewMut → Acceptance
+acceptance_of r v = record { said = accepted_says r; ack = accepted_ack r; buffer = buffer_now v }
 
 -- "Accepting's refusal 5 also gives an ack of that number, count 1" (document 02, §3)
 abbrev pub ack_with : ℕ → ℕ → Option (ℕ × ℕ × ℕ)
@@ -121,8 +97,8 @@ pub record Consumption : Type 0 where
   pub buffer : Buffer
   pub out : List ℕ
 
-abbrev pub consumption_of : Consumed → List Bool → List ℕ → List ℕ → List ℕ → Consumption
-consumption_of r marks lengths store out = record { said = consumed_says r.answer; buffer = buffer_of r.state marks lengths store; out = out }
+abbrev pub consumption_of : Result ConsumeResult Refusal → BufferViewMut → List ℕ → Consumption
+consumption_of r v out = record { said = consumed_says r; buffer = buffer_now v; out = out }
 
 -- what is given stands at the start of the output, whose other bytes stay
 abbrev pub given : Buffer → Read → List ℕ → Consumption
@@ -145,13 +121,8 @@ pub record PieceConsumption : Type 0 where
   pub out : List ℕ
   pub list : List ℕ
 
-abbrev pub piece_consumption_of : ConsumedBytes → List Bool → List ℕ → List ℕ → List ℕ → List ℕ → PieceConsumption
-piece_consumption_of r marks lengths store out list = record {
-  said = consumed_bytes_says r.answer;
-  buffer = buffer_of r.state marks lengths store;
-  out = out;
-  list = list;
-}
+abbrev pub piece_consumption_of : Result (ConsumeResult × ℕ) Refusal → BufferViewMut → List ℕ → List ℕ → PieceConsumption
+piece_consumption_of r v out list = record { said = consumed_bytes_says r; buffer = buffer_now v; out = out; list = list }
 
 -- "Pieces are copied to a lent buffer, their lengths to a lent list"
 abbrev pub given_pieces : Buffer → ℕ → List ℕ → List ℕ → PieceConsumption

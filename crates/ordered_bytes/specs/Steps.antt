@@ -1,14 +1,33 @@
 -- What the inner functions of the reads count, copy and leave, each as one fact with a name for each of its parts, so that a contract is short.
 -- Nothing of document 01 is decided here: Receiver says what a read takes and gives, Calls what is answered and left.
-use Rattle.std.specs.Prelude.{ℕ, ◌+◌, ◌≤◌, ◌≡◌, Bool, length, take, drop, ltb, eqb}
-use mathlib.Core.List.{List, [], ◌∷◌, ◌++◌, map, flatten}
+use Rattle.std.specs.Prelude.{ℕ, ◌+◌, ◌*◌, ◌≤◌, ◌<◌, ◌≡◌, length, take, drop, get_or}
+use mathlib.Core.List.{List, ◌++◌, map, flatten}
 use Rattle.std.proofs.Math.Seq.{paste}
 use Rattle.ordered_bytes.specs.declared.stream.Walked.{Walked}
 use Rattle.ordered_bytes.specs.declared.stream.BytesRead.{BytesRead}
 use Rattle.ordered_bytes.specs.declared.pieces.Payloads.{Payloads}
-use Rattle.ordered_bytes.specs.declared.pieces.Pieces.{Pieces}
+use Rattle.ordered_bytes.specs.declared.ConsumeResult.{ConsumeResult}
 use Rattle.ordered_bytes.specs.Receiver.{Walk, Read, walk, consumed, payloads, carry_piece, taken_payloads, pieces, base}
-use Rattle.ordered_bytes.specs.Buffer.{Buffer, width, view}
+use Rattle.ordered_bytes.specs.Buffer.{Buffer, slots, width, view}
+use Rattle.ordered_bytes.specs.Calls.{consumed_says, given}
+
+-- a slot of the ring: its mark and its length are in the lists, and its payload is in the store, which has at most 2,001 times 65,535 bytes
+pub record InRing (b : Buffer) (slot : ℕ) : Type 0 where
+  pub few : slot < 2000
+  pub marks : slot < length b.marks
+  pub lengths : slot < length b.lengths
+  pub size : get_or b.lengths slot 0 ≤ width b
+  pub wide : width b ≤ 65535
+  pub ends : slot * width b + width b ≤ length b.store
+  pub store : length b.store ≤ 131135535
+
+-- "Carry-over begins at the extra W's start", and is no longer than W
+pub record CarryAt (b : Buffer) (at : ℕ) : Type 0 where
+  pub value : at ≡ slots b * width b
+  pub small : b.state.carry_len ≤ width b
+  pub wide : width b ≤ 65535
+  pub ends : at + width b ≤ length b.store
+  pub store : length b.store ≤ 131135535
 
 -- ---- `consume`
 
@@ -30,10 +49,9 @@ WalkCopied b room at out out' r = Walks b (walk room (view b).held) at out out' 
 
 -- what a read gives, copied to the output's start
 pub record Reads (b : Buffer) (x : Read) (out out' : List ℕ) (r : BytesRead) : Type 0 where
+  pub answer : consumed_says r.answer ≡ (given b x out).said
   pub packets : r.packets ≡ x.packets
-  pub base : r.base ≡ x.base
-  pub bytes : r.bytes ≡ length x.bytes
-  pub copied : out' ≡ paste out 0 x.bytes r.bytes
+  pub copied : out' ≡ paste out 0 x.bytes (length x.bytes)
   pub carry : Stands b r.rest_at r.rest x.carry
 
 abbrev pub ReadCopied : Buffer → ℕ → List ℕ → List ℕ → BytesRead → Type 0
@@ -51,11 +69,12 @@ pub record PayloadsCounted (ps : List (List ℕ)) (r : Payloads) : Type 0 where
   pub bytes : r.bytes ≡ length (flatten ps)
   pub few : r.bytes ≤ 131070000
 
-pub record PiecesCounted (b : Buffer) (limit : ℕ) (r : Pieces) : Type 0 where
-  pub packets : r.packets ≡ length (taken_payloads (view b) limit)
-  pub all : r.pieces ≡ length (pieces (view b) limit)
-  pub bytes : r.bytes ≡ length (flatten (pieces (view b) limit))
-  pub front : r.base ≡ base (view b)
+-- what the pieces give, and how many they are
+pub record PiecesCounted (b : Buffer) (limit : ℕ) (r : ConsumeResult) (count : ℕ) : Type 0 where
+  pub packets : r.num_packets_consumed ≡ length (taken_payloads (view b) limit)
+  pub all : count ≡ length (pieces (view b) limit)
+  pub bytes : r.bytes_consumed ≡ length (flatten (pieces (view b) limit))
+  pub front : r.base_packet_number ≡ base (view b)
 
 -- the carry-over, where there is one, and k held packets
 abbrev pub pieces_of : Buffer → ℕ → List (List ℕ)
@@ -69,11 +88,3 @@ pub record RoomFor (ps : List (List ℕ)) (out : List ℕ) (at : ℕ) (list : Li
 pub record PiecesCopied (ps : List (List ℕ)) (out out' : List ℕ) (at : ℕ) (list list' : List ℕ) (first : ℕ) : Type 0 where
   pub bytes : out' ≡ paste out at (flatten ps) (length (flatten ps))
   pub cells : list' ≡ paste list first (map length ps) (length ps)
-
--- "10 if either is short", and "no piece: 8"
-abbrev pub piece_checks : ℕ → ℕ → ℕ → ℕ → List (Bool × ℕ)
-piece_checks room cells bytes pieces = (ltb room bytes, 10) ∷ (ltb cells pieces, 10) ∷ (eqb pieces 0, 8) ∷ []
-
--- "The answer is `consume`'s, with the count of pieces."
-abbrev pub pieces_says : Pieces → (ℕ × ℕ × ℕ) × ℕ
-pieces_says p = ((p.packets, p.base, p.bytes), p.pieces)

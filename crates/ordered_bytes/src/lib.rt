@@ -3,14 +3,21 @@
 // Proved: what each call answers, the state and every lent list that it leaves are the definition's in specs/Calls.antt, on every input.
 #![tactic(auto)]
 
-ghost use Rattle.std.specs.Prelude.{◌≡◌, true};
-ghost use Rattle.ordered_bytes.specs.Buffer.{buffer_of, well_formed};
-ghost use Rattle.ordered_bytes.specs.Calls.{creation_of, creating, started_says, starting, acceptance_of, accepting, peeked_says, peeking};
+ghost use Rattle.std.specs.Prelude.{◌≡◌, true, Err};
+ghost use Rattle.refusal.specs.Refusal.{number_of};
+ghost use Rattle.refusal.specs.Said.{refuses, says};
+ghost use Rattle.ordered_bytes.specs.declared.AcceptError.TheVariants.{Refused};
+ghost use Rattle.ordered_bytes.specs.Buffer.{buffer_in, buffer_now, well_formed, SameLent};
+ghost use Rattle.ordered_bytes.specs.Calls.{creation_of, creating, starting, accepted_says, acceptance_of, accepting, peeking};
 ghost use Rattle.ordered_bytes.specs.Calls.{consumption_of, consuming, piece_consumption_of, consuming_bytes};
 
+use crate::checked::Checked;
+use lists::LARGEST;
 use refusal::Refusal;
 pub use slots::SlotLength;
+use thiserror::Error;
 
+mod checked;
 mod front;
 mod pieces;
 mod state;
@@ -18,7 +25,7 @@ mod stream;
 
 // What is small of the buffer. The rest is lent beside it: a mark and a length for each slot, and the store of (N + 1) × W bytes.
 #[repr(C)]
-#[derive(Clone, Copy)]
+#[derive(Clone, Copy, Debug, PartialEq, Eq)]
 pub struct OrderedBytes {
     pub slot_width: usize,
     pub front_slot: usize,
@@ -26,314 +33,246 @@ pub struct OrderedBytes {
     pub carry_len: usize,
 }
 
+// The buffer with what is lent beside it. Marks and lengths are two lists, since C lends them so.
 #[derive(Clone, Copy)]
-pub enum Created {
-    Buffer(OrderedBytes),
-    Refused(Refusal),
+pub struct BufferView<'a> {
+    pub state: OrderedBytes,
+    pub marks: &'a [bool],
+    pub lengths: &'a [SlotLength],
+    pub store: &'a [u8],
 }
 
-#[derive(Clone, Copy)]
-pub enum Started {
-    Buffer(OrderedBytes),
-    Refused(Refusal),
-}
-
-// Refusal 5 stands apart: it gives an ack, of that number and count 1, in the form of a read's (document 02, §3).
-#[derive(Clone, Copy)]
-pub enum Accepted {
-    Stored,
-    Below(ConsumeResult),
-    Refused(Refusal),
-}
-
-#[derive(Clone, Copy)]
-pub enum Peeked {
-    Available,
-    Refused(Refusal),
+// The same to change.
+#[derive(Drop)]
+pub struct BufferViewMut<'a> {
+    pub state: OrderedBytes,
+    pub marks: &'a mut [bool],
+    pub lengths: &'a mut [SlotLength],
+    pub store: &'a mut [u8],
 }
 
 // What a read gave: the packets that left their slots, the number of the front one or 0, and the bytes given.
-#[derive(Clone, Copy)]
+#[derive(Clone, Copy, Debug, PartialEq, Eq)]
 pub struct ConsumeResult {
     pub num_packets_consumed: usize,
     pub base_packet_number: u64,
     pub bytes_consumed: u64,
 }
 
-#[derive(Clone, Copy)]
-pub enum ConsumeAnswer {
-    Given(ConsumeResult),
+// Refusal 5 stands apart: it gives an ack, of that number and count 1, in the form of a read's (document 02, §3).
+#[derive(Clone, Copy, Debug, PartialEq, Eq, Error)]
+pub enum AcceptError {
+    #[error("a number below those expected")]
+    Below(ConsumeResult),
+    #[error("{0}")]
     Refused(Refusal),
 }
 
-// Refusal 8 may still take empty packets, so every answer of a read carries the state.
-#[derive(Clone, Copy)]
-pub struct Consumed {
-    pub state: OrderedBytes,
-    pub answer: ConsumeAnswer,
-}
-
-#[derive(Clone, Copy)]
-pub enum ConsumeBytesAnswer {
-    Given(ConsumeResult, usize),
-    Refused(Refusal),
-}
-
-#[derive(Clone, Copy)]
-pub struct ConsumedBytes {
-    pub state: OrderedBytes,
-    pub answer: ConsumeBytesAnswer,
-}
-
-// Refusal 12's test.
-pub fn well_formed(o: OrderedBytes, marks: &[bool], lengths: &[SlotLength], store: &[u8]) -> bool
-    ensures { result ≡ well_formed (buffer_of o marks.now lengths.now store.now) }
-{
-    let slot_width = o.slot_width;
-    if !slots::shape_fits(slot_width, marks, lengths, store) {
-        return false;
-    }
-    if marks.len() <= o.front_slot {
-        return false;
-    }
-    if slot_width < o.carry_len {
-        return false;
-    }
-    if !slots::lengths_within(slot_width as SlotLength, lengths) {
-        return false;
-    }
-    state::held_numbers_fit(o, marks)
-}
-
-// net/ordered_bytes.rs, OrderedBytes::new. The store is not written.
-pub fn new(
-    slot_width: usize,
-    start_packet_number: u64,
-    marks: &mut [bool],
-    lengths: &mut [SlotLength],
-    store: &[u8],
-) -> Created
-    ensures { creation_of result marks.new lengths.new ≡ creating slot_width start_packet_number marks.old lengths.old store.now }
-{
-    if !slots::shape_fits(slot_width, marks, lengths, store) {
-        return Created::Refused(Refusal::Malformed);
-    }
-    slots::clear_slots(marks, lengths);
-    Created::Buffer(OrderedBytes {
-        slot_width: slot_width,
-        front_slot: 0,
-        front_number: start_packet_number,
-        carry_len: 0,
-    })
-}
-
-// net/ordered_bytes.rs, OrderedBytes::set_start_packet_number, which has no refusal.
-pub fn set_start_packet_number(
-    o: OrderedBytes,
-    start_packet_number: u64,
-    marks: &[bool],
-    lengths: &[SlotLength],
-    store: &[u8],
-) -> Started
-    ensures { started_says result ≡ starting (buffer_of o marks.now lengths.now store.now) start_packet_number }
-{
-    if !well_formed(o, marks, lengths, store) {
-        return Started::Refused(Refusal::Malformed);
-    }
-    if state::held_from(o, 0, marks) {
-        return Started::Refused(Refusal::PacketsHeld);
-    }
-    Started::Buffer(OrderedBytes {
-        slot_width: o.slot_width,
-        front_slot: o.front_slot,
-        front_number: start_packet_number,
-        carry_len: o.carry_len,
-    })
-}
-
-// net/ordered_bytes.rs, OrderedBytes::buffer_in_packet.
-pub fn buffer_in_packet(
-    o: OrderedBytes,
-    n: u64,
-    payload: &[u8],
-    marks: &mut [bool],
-    lengths: &mut [SlotLength],
-    store: &mut [u8],
-) -> Accepted
-    ensures { acceptance_of result o marks.new lengths.new store.new
-        ≡ accepting (buffer_of o marks.old lengths.old store.old) n payload.now }
-{
-    if !well_formed(o, marks, lengths, store) {
-        return Accepted::Refused(Refusal::Malformed);
-    }
-    buffer_in_packet_unchecked(o, n, payload, marks, lengths, store)
-}
-
-// The same without refusal 12's test.
-pub fn buffer_in_packet_unchecked(
-    o: OrderedBytes,
-    n: u64,
-    payload: &[u8],
-    marks: &mut [bool],
-    lengths: &mut [SlotLength],
-    store: &mut [u8],
-) -> Accepted
-    requires { well_formed (buffer_of o marks.old lengths.old store.old) ≡ true }
-    ensures { acceptance_of result o marks.new lengths.new store.new
-        ≡ accepting (buffer_of o marks.old lengths.old store.old) n payload.now }
-{
-    let front_number = o.front_number;
-    if n < front_number {
-        return Accepted::Below(ConsumeResult {
-            num_packets_consumed: 1,
-            base_packet_number: n,
-            bytes_consumed: 0,
-        });
-    }
-    let distance = n - front_number;
-    if marks.len() as u64 <= distance {
-        return Accepted::Refused(Refusal::Beyond);
-    }
-    if n == lists::LARGEST {
-        return Accepted::Refused(Refusal::Exhausted);
-    }
-    let slot = slots::wrap_index(marks.len(), o.front_slot, distance as usize);
-    if marks[slot] {
-        return Accepted::Refused(Refusal::AlreadyHeld);
-    }
-    if o.slot_width < payload.len() {
-        return Accepted::Refused(Refusal::OutOfRange);
-    }
-    slots::store_in(slot, o.slot_width, payload, marks, lengths, store);
-    Accepted::Stored
-}
-
-// net/ordered_bytes.rs, OrderedBytes::peek.
-pub fn peek(o: OrderedBytes, marks: &[bool], lengths: &[SlotLength], store: &[u8]) -> Peeked
-    ensures { peeked_says result ≡ peeking (buffer_of o marks.now lengths.now store.now) }
-{
-    if !well_formed(o, marks, lengths, store) {
-        return Peeked::Refused(Refusal::Malformed);
-    }
-    peek_unchecked(o, marks, lengths, store)
-}
-
-// The same without refusal 12's test.
-pub fn peek_unchecked(
-    o: OrderedBytes,
-    marks: &[bool],
-    lengths: &[SlotLength],
-    store: &[u8],
-) -> Peeked
-    requires { well_formed (buffer_of o marks.now lengths.now store.now) ≡ true }
-    ensures { peeked_says result ≡ peeking (buffer_of o marks.now lengths.now store.now) }
-{
-    if 0 < o.carry_len {
-        return Peeked::Available;
-    }
-    let front_slot = o.front_slot;
-    if marks[front_slot] {
-        return Peeked::Available;
-    }
-    Peeked::Refused(Refusal::Empty)
-}
-
-// net/ordered_bytes.rs, OrderedBytes::consume.
-pub fn consume(
-    o: OrderedBytes,
-    len: usize,
-    buf: &mut [u8],
-    marks: &mut [bool],
-    lengths: &mut [SlotLength],
-    store: &mut [u8],
-) -> Consumed
-    ensures { consumption_of result marks.new lengths.new store.new buf.new
-        ≡ consuming (buffer_of o marks.old lengths.old store.old) len buf.old }
-{
-    if !well_formed(o, marks, lengths, store) {
-        return Consumed {
-            state: o,
-            answer: ConsumeAnswer::Refused(Refusal::Malformed),
-        };
-    }
-    consume_unchecked(o, len, buf, marks, lengths, store)
-}
-
-// The same without refusal 12's test.
-pub fn consume_unchecked(
-    o: OrderedBytes,
-    len: usize,
-    buf: &mut [u8],
-    marks: &mut [bool],
-    lengths: &mut [SlotLength],
-    store: &mut [u8],
-) -> Consumed
-    requires { well_formed (buffer_of o marks.old lengths.old store.old) ≡ true }
-    ensures { consumption_of result marks.new lengths.new store.new buf.new
-        ≡ consuming (buffer_of o marks.old lengths.old store.old) len buf.old }
-{
-    if buf.len() < len {
-        return Consumed {
-            state: o,
-            answer: ConsumeAnswer::Refused(Refusal::BufferShort),
-        };
-    }
-    let r = stream::read_bytes(o, len, buf, marks, lengths, store);
-    Consumed {
-        state: front::take_packets(o, r.packets, r.rest_at, r.rest, marks, lengths, store),
-        answer: stream::consume_answer(o.carry_len, len, r.packets, r.base, r.bytes),
-    }
-}
-
-// net/ordered_bytes.rs, OrderedBytes::consume_bytes. The pieces are copied to `buf` end to end, their lengths to `list`.
-pub fn consume_bytes(
-    o: OrderedBytes,
-    limit: usize,
-    buf: &mut [u8],
-    list: &mut [u32],
-    marks: &mut [bool],
-    lengths: &mut [SlotLength],
-    store: &mut [u8],
-) -> ConsumedBytes
-    ensures { piece_consumption_of result marks.new lengths.new store.new buf.new list.new
-        ≡ consuming_bytes (buffer_of o marks.old lengths.old store.old) limit buf.old list.old }
-{
-    if !well_formed(o, marks, lengths, store) {
-        return ConsumedBytes {
-            state: o,
-            answer: ConsumeBytesAnswer::Refused(Refusal::Malformed),
-        };
-    }
-    consume_bytes_unchecked(o, limit, buf, list, marks, lengths, store)
-}
-
-// The same without refusal 12's test.
-pub fn consume_bytes_unchecked(
-    o: OrderedBytes,
-    limit: usize,
-    buf: &mut [u8],
-    list: &mut [u32],
-    marks: &mut [bool],
-    lengths: &mut [SlotLength],
-    store: &mut [u8],
-) -> ConsumedBytes
-    requires { well_formed (buffer_of o marks.old lengths.old store.old) ≡ true }
-    ensures { piece_consumption_of result marks.new lengths.new store.new buf.new list.new
-        ≡ consuming_bytes (buffer_of o marks.old lengths.old store.old) limit buf.old list.old }
-{
-    let p = pieces::count_pieces(o, limit, marks, lengths, store);
-    let answer = pieces::consume_bytes_answer(p, buf.len(), list.len());
-    match answer {
-        ConsumeBytesAnswer::Refused(_) => ConsumedBytes {
-            state: o,
-            answer: answer,
-        },
-        ConsumeBytesAnswer::Given(_, _) => {
-            pieces::copy_pieces(o, p.packets, buf, list, marks, lengths, store);
-            ConsumedBytes {
-                state: front::take_packets(o, p.packets, 0, 0, marks, lengths, store),
-                answer: answer,
-            }
+impl AcceptError {
+    pub fn refusal(self) -> Refusal
+        ensures { accepted_says (Err self) ≡ refuses (number_of result) }
+    {
+        match self {
+            AcceptError::Below(_) => Refusal::Below,
+            AcceptError::Refused(refusal) => refusal,
         }
+    }
+}
+
+impl From<Refusal> for AcceptError {
+    ghost from_gives = { λ refusal e. e ≡ Refused refusal };
+
+    fn from(refusal: Refusal) -> Self {
+        Self::Refused(refusal)
+    }
+}
+
+impl OrderedBytes {
+    // net/ordered_bytes.rs, OrderedBytes::new. The store is not written.
+    #[tactic(auto, unfolding(crate::specs::Calls::creating))]
+    pub fn new(
+        slot_width: usize,
+        start_packet_number: u64,
+        marks: &mut [bool],
+        lengths: &mut [SlotLength],
+        store: &[u8],
+    ) -> Result<Self, Refusal>
+        ensures { creation_of result marks.new lengths.new ≡ creating slot_width start_packet_number marks.old lengths.old store.now }
+    {
+        if !slots::shape_fits(slot_width, marks, lengths, store) {
+            return Err(Refusal::Malformed);
+        }
+        slots::clear_slots(marks, lengths);
+        Ok(Self {
+            slot_width,
+            front_slot: 0,
+            front_number: start_packet_number,
+            carry_len: 0,
+        })
+    }
+}
+
+impl BufferView<'_> {
+    // net/ordered_bytes.rs, OrderedBytes::set_start_packet_number, which has no refusal.
+    #[tactic(auto, unfolding(crate::specs::Calls::starting))]
+    pub fn set_start_packet_number(&self, start_packet_number: u64) -> Result<OrderedBytes, Refusal>
+        ensures { says (λ o. o) result ≡ starting (buffer_in self.now) start_packet_number }
+    {
+        self.checked()?;
+        if self.held_from(0) {
+            return Err(Refusal::PacketsHeld);
+        }
+        Ok(OrderedBytes {
+            front_number: start_packet_number,
+            ..self.state
+        })
+    }
+
+    // net/ordered_bytes.rs, OrderedBytes::peek.
+    #[tactic(auto, unfolding(crate::specs::Calls::peeking))]
+    pub fn peek(&self) -> Result<(), Refusal>
+        ensures { says (λ u. u) result ≡ peeking (buffer_in self.now) }
+    {
+        self.checked()?.peek()
+    }
+
+    // The same without refusal 12's test.
+    pub fn peek_unchecked(&self) -> Result<(), Refusal>
+        requires { well_formed (buffer_in self.now) ≡ true }
+        ensures { says (λ u. u) result ≡ peeking (buffer_in self.now) }
+    {
+        Checked { view: *self }.peek()
+    }
+}
+
+impl BufferViewMut<'_> {
+    pub fn view(&self) -> BufferView<'_>
+        ensures { buffer_in result ≡ buffer_now self.now }
+    {
+        BufferView {
+            state: self.state,
+            marks: self.marks,
+            lengths: self.lengths,
+            store: self.store,
+        }
+    }
+
+    // net/ordered_bytes.rs, OrderedBytes::buffer_in_packet.
+    #[tactic(auto, unfolding(crate::specs::Calls::accepting))]
+    pub fn buffer_in_packet(&mut self, n: u64, payload: &[u8]) -> Result<(), AcceptError>
+        ensures lent { SameLent self.old self.new }
+        ensures state { self.new.state ≡ self.old.state }
+        ensures value { acceptance_of result self.new ≡ accepting (buffer_now self.old) n payload.now }
+    {
+        self.view().checked()?;
+        self.buffer_in_packet_unchecked(n, payload)
+    }
+
+    // The same without refusal 12's test.
+    pub fn buffer_in_packet_unchecked(&mut self, n: u64, payload: &[u8]) -> Result<(), AcceptError>
+        requires { well_formed (buffer_now self.old) ≡ true }
+        ensures lent { SameLent self.old self.new }
+        ensures state { self.new.state ≡ self.old.state }
+        ensures value { acceptance_of result self.new ≡ accepting (buffer_now self.old) n payload.now }
+    {
+        if n < self.state.front_number {
+            return Err(AcceptError::Below(ConsumeResult {
+                num_packets_consumed: 1,
+                base_packet_number: n,
+                bytes_consumed: 0,
+            }));
+        }
+        let distance = n - self.state.front_number;
+        if self.marks.len() as u64 <= distance {
+            return Err(Refusal::Beyond.into());
+        }
+        if n == LARGEST {
+            return Err(Refusal::Exhausted.into());
+        }
+        let slot = Checked { view: self.view() }.slot_at(distance as usize);
+        if self.marks[slot] {
+            return Err(Refusal::AlreadyHeld.into());
+        }
+        if self.state.slot_width < payload.len() {
+            return Err(Refusal::OutOfRange.into());
+        }
+        slots::store_in(
+            slot,
+            self.state.slot_width,
+            payload,
+            self.marks,
+            self.lengths,
+            self.store,
+        );
+        Ok(())
+    }
+
+    // net/ordered_bytes.rs, OrderedBytes::consume.
+    #[tactic(auto, unfolding(crate::specs::Calls::consuming))]
+    pub fn consume(&mut self, len: usize, buf: &mut [u8]) -> Result<ConsumeResult, Refusal>
+        ensures lent { SameLent self.old self.new }
+        ensures value { consumption_of result self.new buf.new ≡ consuming (buffer_now self.old) len buf.old }
+    {
+        self.view().checked()?;
+        self.consume_unchecked(len, buf)
+    }
+
+    // The same without refusal 12's test.
+    pub fn consume_unchecked(
+        &mut self,
+        len: usize,
+        buf: &mut [u8],
+    ) -> Result<ConsumeResult, Refusal>
+        requires { well_formed (buffer_now self.old) ≡ true }
+        ensures lent { SameLent self.old self.new }
+        ensures value { consumption_of result self.new buf.new ≡ consuming (buffer_now self.old) len buf.old }
+    {
+        if buf.len() < len {
+            return Err(Refusal::BufferShort);
+        }
+        let read = Checked { view: self.view() }.read_bytes(len, buf);
+        self.take_packets(read.packets, read.rest_at, read.rest);
+        read.answer
+    }
+
+    // net/ordered_bytes.rs, OrderedBytes::consume_bytes. The pieces are copied to `buf` end to end, their lengths to `list`.
+    #[tactic(auto, unfolding(crate::specs::Calls::consuming_bytes))]
+    pub fn consume_bytes(
+        &mut self,
+        limit: usize,
+        buf: &mut [u8],
+        list: &mut [u32],
+    ) -> Result<(ConsumeResult, usize), Refusal>
+        ensures lent { SameLent self.old self.new }
+        ensures value { piece_consumption_of result self.new buf.new list.new
+            ≡ consuming_bytes (buffer_now self.old) limit buf.old list.old }
+    {
+        self.view().checked()?;
+        self.consume_bytes_unchecked(limit, buf, list)
+    }
+
+    // The same without refusal 12's test.
+    pub fn consume_bytes_unchecked(
+        &mut self,
+        limit: usize,
+        buf: &mut [u8],
+        list: &mut [u32],
+    ) -> Result<(ConsumeResult, usize), Refusal>
+        requires { well_formed (buffer_now self.old) ≡ true }
+        ensures lent { SameLent self.old self.new }
+        ensures value { piece_consumption_of result self.new buf.new list.new
+            ≡ consuming_bytes (buffer_now self.old) limit buf.old list.old }
+    {
+        let checked = Checked { view: self.view() };
+        let (taken, pieces) = checked.count_pieces(limit);
+        if (buf.len() as u64) < taken.bytes_consumed || list.len() < pieces {
+            return Err(Refusal::BufferShort);
+        }
+        if pieces == 0 {
+            return Err(Refusal::Empty);
+        }
+        checked.copy_pieces(taken.num_packets_consumed, buf, list);
+        self.take_packets(taken.num_packets_consumed, 0, 0);
+        Ok((taken, pieces))
     }
 }

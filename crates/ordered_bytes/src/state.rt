@@ -1,34 +1,46 @@
-// Of refusal 12's test, what concerns the numbers held; document 01, the refusal table. The slots' part is in crates/slots.
-// Proved: each test is the definition's. `buffer_of o marks [] []` says that the marks alone decide, whatever the lengths and the store.
-ghost use Rattle.std.specs.Prelude.{◌≡◌, [], ◌≤◌, ◌<◌, length, drop};
+// Refusal 12's test; document 01, the refusal table. What concerns the slots alone is tested in crates/slots.
+// Proved: each test is the definition's.
+ghost use Rattle.std.specs.Prelude.{◌≡◌, ◌≤◌, ◌<◌, length, drop};
 ghost use Rattle.ordered_bytes.specs.Receiver.{numbers_fit, any_held};
-ghost use Rattle.ordered_bytes.specs.Buffer.{buffer_of, view};
+ghost use Rattle.ordered_bytes.specs.Buffer.{buffer_in, view, well_formed};
 
-use crate::OrderedBytes;
+use crate::{BufferView, OrderedBytes, SlotLength};
 use lists::LARGEST;
 
-// Whether a slot is held at this distance from the front slot or farther.
-pub fn held_from(o: OrderedBytes, distance: u64, marks: &[bool]) -> bool
-    requires { (length marks.now ≤ 2000) × (o.front_slot < length marks.now) }
-    ensures { result ≡ any_held (drop distance (view (buffer_of o marks.now [] [])).held) }
-{
-    let n = marks.len();
-    let front_slot = o.front_slot;
-    let mut d = distance;
-    while d < n as u64 {
-        let slot = slots::wrap_index(n, front_slot, d as usize);
-        if marks[slot] {
-            return true;
-        }
-        d += 1;
+impl BufferView<'_> {
+    #[tactic(auto, unfolding(crate::specs::Buffer::well_formed))]
+    pub fn well_formed(&self) -> bool
+        ensures { result ≡ well_formed (buffer_in self.now) }
+    {
+        let OrderedBytes {
+            slot_width,
+            front_slot,
+            carry_len,
+            ..
+        } = self.state;
+        slots::shape_fits(slot_width, self.marks, self.lengths, self.store)
+            && front_slot < self.marks.len()
+            && carry_len <= slot_width
+            && slots::lengths_within(slot_width as SlotLength, self.lengths)
+            && self.held_numbers_fit()
     }
-    false
-}
 
-// No held number above 2^64 − 2: looks only at the distances that lead there, which are none unless the front number is above 2^64 − 1 − N.
-pub fn held_numbers_fit(o: OrderedBytes, marks: &[bool]) -> bool
-    requires { (length marks.now ≤ 2000) × (o.front_slot < length marks.now) }
-    ensures { result ≡ numbers_fit o.front_number (view (buffer_of o marks.now [] [])).held }
-{
-    !held_from(o, LARGEST - o.front_number, marks)
+    // Whether a slot is held at this distance from the front slot or farther.
+    pub(crate) fn held_from(&self, distance: u64) -> bool
+        requires { (length self.now.marks.now ≤ 2000) × (self.now.state.front_slot < length self.now.marks.now) }
+        ensures { result ≡ any_held (drop distance (view (buffer_in self.now)).held) }
+    {
+        let BufferView { state, marks, .. } = *self;
+        let n = marks.len();
+        (distance..n as u64).any(|d| marks[slots::wrap_index(n, state.front_slot, d as usize)])
+    }
+
+    // No held number above 2^64 − 2: looks only at the distances that lead there, which are none unless the front number is above 2^64 − 1 − N.
+    #[tactic(auto, using(crate::proofs::Tests::fit_late))]
+    fn held_numbers_fit(&self) -> bool
+        requires { (length self.now.marks.now ≤ 2000) × (self.now.state.front_slot < length self.now.marks.now) }
+        ensures { result ≡ numbers_fit self.now.state.front_number (view (buffer_in self.now)).held }
+    {
+        !self.held_from(LARGEST - self.state.front_number)
+    }
 }

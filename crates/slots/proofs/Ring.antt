@@ -65,6 +65,11 @@ module _ {A : Type 0} (n : ℕ) (x : A) where
   length-cleared i zero l = refl
   length-cleared i (suc k) l = length-cleared (wrap n (i + 1)) k (set l i x) ∙ length-set l i x
 
+  -- clearing from slot i on clears it first
+  pub cleared_first : (i k j : ℕ) (l : List A) → k ≡ suc j → cleared n (wrap n (i + 1)) j x (set l i x) ≡ cleared n i k x l
+  cleared_first i zero j l e = absurd (omega arith)
+  cleared_first i (suc k) j l e = let z : j ≡ k = omega arith in rw z
+
   -- one more slot cleared at the back: a loop that has cleared k clears the one at distance k
   pub cleared_next : (i k : ℕ) (l : List A) → i < n → k < n → cleared n i (suc k) x l ≡ set (cleared n i k x l) (wrap n (i + k)) x
   cleared_next i zero l hi hk = rw (wrap-zero hi)

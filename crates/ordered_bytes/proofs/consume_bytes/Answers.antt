@@ -1,8 +1,0 @@
--- `ordered_bytes::consume_bytes`: refusal 12, where its test says so.
-use Rattle.std.proofs.Common.{sym, ◌∙◌}
-use Rattle.ordered_bytes.specs.Calls.{consuming_bytes}
-use Rattle.ordered_bytes.proofs.consume_bytes.Goals as goal
-
-pub returns-then-not-well_formed : goal.returns-then-not-well_formed
-unfolding consuming_bytes
-returns-then-not-well_formed c = rw (sym c.well_formed-2.ensures ∙ c.if-not-well_formed.true)
