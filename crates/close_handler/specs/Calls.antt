@@ -1,7 +1,6 @@
 -- Lists of calls on one close record, and what is counted along them: the words of proofs/Laws.antt.
 -- The getters change nothing and are left out.
-use Rattle.std.specs.Prelude.{ℕ, ◌+◌, ◌≡◌, Bool, true, false, cond, List, [], ◌∷◌, eqb}
-use Rattle.std.proofs.Math.Option.{Option, none, some}
+use Rattle.std.specs.Prelude.{ℕ, ◌+◌, ◌≡◌, Bool, true, false, cond, List, [], ◌∷◌, eqb, Option, Some, None}
 use Rattle.close_handler.specs.Close.{owed, after_fin, after_fin_ack, after_local_fin, after_closed, taken}
 use Rattle.close_handler.specs.declared.CloseBuffer.{CloseBuffer}
 use Rattle.close_handler.specs.declared.CloseState.{CloseState}
@@ -50,13 +49,13 @@ total f c [] = 0
 total f c (k ∷ ks) = f c k + total f (after c k) ks
 
 abbrev pub one : Option ℕ → ℕ
-one none = 0
-one (some n) = 1
+one None = 0
+one (Some n) = 1
 
 -- a FIN-ACK became owed where none was: one that is owed again while it still is counts once
 abbrev pub newly : Option ℕ → Option ℕ → ℕ
-newly none o = one o
-newly (some m) o = 0
+newly None o = one o
+newly (Some m) o = 0
 
 abbrev pub became_owed : CloseBuffer → Call → ℕ
 became_owed c k = newly (owed c) (owed (after c k))
@@ -76,7 +75,7 @@ is_owed (PeerFinReceived m) n = eqb m n
 is_owed Closed n = false
 
 abbrev pub last_after : Option ℕ → CloseBuffer → Call → Option ℕ
-last_after last c (fin n) = cond (is_owed c.state n) (some n) last
+last_after last c (fin n) = cond (is_owed c.state n) (Some n) last
 last_after last c (fin_ack n) = last
 last_after last c (local_fin n) = last
 last_after last c close = last

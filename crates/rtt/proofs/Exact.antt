@@ -1,7 +1,7 @@
 -- Each step lies less than half a microsecond from RFC 6298's exact step off the same stored numbers (specs/Exact.antt).
 -- The largest distances are 7 sixty-fourths, at (S, V, R) = (7, 0, 0), and 13 thirty-seconds, at (7, 3, 1). Over a run the roundings add up: nothing is claimed there.
 -- Assumes nothing.
-use Prim.Native.Nat.{ℕ, ◌+◌, ◌-◌, ◌*◌, ◌/◌, ◌<◌}
+use Prim.Native.Nat.{ℕ, ◌+◌, ◌*◌, ◌<◌}
 use mathlib.Core.Path.{◌≡◌, sym, ap, ◌∙◌}
 use mathlib.Core.Bool.{Bool, true, false, cond}
 use native.Mathlib.Omega.{arith}
@@ -25,19 +25,14 @@ module _ (t : RttEstimator) (r : ℕ) (left : RttEstimator) where
       by (passes p q) = ap (λ (o : Said Unit × RttEstimator). o.1) (sym q ∙ e)
       by (fails n f q) =
           let both : ◌≡◌ {A = Said Unit} (refuses n) (answers tt) = ap (λ (o : Said Unit × RttEstimator). o.0) (sym q ∙ e) in
-          absurd (let z : ◌≡◌ {A = ℕ} 0 1 = cc in omega arith)
-
-within : (a b half : ℕ) → a < b + half → b < a + half → distance a b < half
-within a b half above below = omega arith
+          cc
 
 module _ (s v r : ℕ) where
   smoothed_near : distance (8 * smoothed_after r s) (7 * s + 8 * r) < half_smoothed
-  smoothed_near = rw (smoothed_is r s) (within (8 * (s + r - s / 8)) (7 * s + 8 * r) half_smoothed (omega arith) (omega arith))
+  smoothed_near = omega (arith, smoothed_is r s)
 
   variation_near : distance (8 * variation_after r s v) (6 * v + distance s (8 * r)) < half_variation
-  variation_near =
-      rw (variation_is r s v)
-      (within (8 * (v + distance r (s / 8) - v / 4)) (6 * v + distance s (8 * r)) half_variation (omega arith) (omega arith))
+  variation_near = omega (arith, variation_is r s v)
 
 module _ (t : RttEstimator) (r : ℕ) where
   after_smoothed : distance (8 * (after t r).smoothed) (exact_smoothed t r) < half_smoothed

@@ -2,13 +2,8 @@
 -- S, `smoothed`, is the smoothed trip in eighths of a microsecond; V, `variation`, its variation in quarters.
 -- A definition takes the estimator as it came; a sample's gives what is said and the estimator left.
 use Rattle.std.specs.Prelude.{ℕ, ◌+◌, ◌-◌, ◌*◌, ◌/◌, max, min, Bool, true, false, not, cond, ◌&&◌, List, [], ◌∷◌, ℤ, pos, nat_abs, ◌+ℤ◌, ◌-ℤ◌, ltb, leb}
-use Rattle.refusal.specs.Refusal.{number_of}
 use Rattle.refusal.specs.Said.{Said, answers, refuses, checks}
 use Rattle.rtt.specs.declared.RttEstimator.{RttEstimator}
-use Rattle.rtt.specs.declared.Sampled.{Sampled}
-use Rattle.rtt.specs.declared.Sampled.TheVariants as sampled
-use Rattle.rtt.specs.declared.Wait.{Wait}
-use Rattle.rtt.specs.declared.Wait.TheVariants as wait
 
 -- one that has taken a sample
 abbrev pub estimator : ℕ → ℕ → RttEstimator
@@ -80,18 +75,3 @@ first_wait = 1000000
 
 unfoldable pub waiting : RttEstimator → Said ℕ
 waiting t = checks ((not (well_formed t), 12) ∷ []) refuses (answers (cond t.sampled (rto t.smoothed t.variation) first_wait))
-
--- The answers in the paper's terms
-
-abbrev pub sampled_says : Sampled → Said Unit
-sampled_says (sampled.Taken t) = answers tt
-sampled_says (sampled.Refused r) = refuses (number_of r)
-
--- the estimator to go on with
-abbrev pub estimator_after : RttEstimator → Sampled → RttEstimator
-estimator_after t (sampled.Taken u) = u
-estimator_after t (sampled.Refused r) = t
-
-abbrev pub wait_says : Wait → Said ℕ
-wait_says (wait.Micros n) = answers n
-wait_says (wait.Refused r) = refuses (number_of r)
