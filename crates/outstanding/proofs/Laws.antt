@@ -9,7 +9,7 @@ use lib.ListN.{length, take, drop, get_or, length-append, length-drop, take-appe
 use lib.Seq.{paste, length-paste, length-take-le, take_all, take_at, take-take, take-paste, get_or-take, drop-drop, drop_at}
 use lib.Dec.{ltb, leb}
 use borrow.Author.Tests.{ltb-true, leb-true, leb-false, lt-ltb, le-ltb, le-leb}
-use Rattle.refusal.specs.Said.{Said, answers, refuses}
+use Rattle.refusal.specs.Said.{answers, refuses}
 use Rattle.lists.specs.Rising.{rising}
 use Rattle.lists.specs.Within.{all_within}
 use Rattle.lists.proofs.Part.{take-drop}
@@ -96,11 +96,15 @@ pub below_good : (next : ℕ) {k : Store} → well_formed_below next k ≡ true 
 unfolding well_formed_below
 below_good next {k} h = let a = both (well_formed k) (all_below next (numbers_of k)) h in (good a.0, a.1)
 
+-- what a view answers of the store that it reads
+pub viewed_below : (next : ℕ) {v k : Store} {t : Bool} → v ≡ k → t ≡ well_formed_below next v → well_formed_below next k ≡ t
+viewed_below next e q = ap (well_formed_below next) (sym e) ∙ sym q
+
 pub below_is : (next : ℕ) {k : Store} → Good k → all_below next (numbers_of k) ≡ true → well_formed_below next k ≡ true
 unfolding well_formed_below
 below_is next g h = rw (good_is g) h
 
-length-numbers : {k : Store} → Good k → length (numbers_of k) ≡ count_of k
+pub length-numbers : {k : Store} → Good k → length (numbers_of k) ≡ count_of k
 length-numbers {k} g = length-take-le (count_of k) k.numbers (omega (arith, g.few, g.numbers))
 
 length_lengths : {k : Store} → Good k → length (lengths_of k) ≡ count_of k
@@ -111,10 +115,16 @@ pub size_fits : {k : Store} → Good k → size (lengths_of k) ≤ length k.pack
 unfolding places payload_size
 size_fits {k} g = let l = size_within (lengths_of k) g.within in omega (arith, length_lengths g, g.few, g.packets)
 
--- .. and is moved in at most two parts of 65,536 bytes
+-- .. and is moved in one part of at most 131,072 bytes
 pub size_small : {k : Store} → Good k → size (lengths_of k) ≤ 131072
 unfolding places payload_size
 size_small {k} g = let l = size_within (lengths_of k) g.within in omega (arith, length_lengths g, g.few)
+
+-- what the test lets a call rely on: its cells and bytes lie within what is lent
+pub room : (k : Store) → well_formed k ≡ true
+    → (count_of k ≤ 64) × (count_of k ≤ length k.numbers) × (count_of k ≤ length k.lengths) × (size (lengths_of k) ≤ length k.packets)
+unfolding places
+room k h = let g = good h in (g.few, omega (arith, g.few, g.numbers), omega (arith, g.few, g.lengths), size_fits g)
 
 -- ---- rising numbers
 
@@ -374,24 +384,19 @@ listing_short k out h short = rw (h, lt-ltb (length out) (size (lengths_of k)) s
 
 -- ---- what each call's steps come to
 
-pub list_law : (k : Store) (out after : List ℕ) (total : ℕ) → well_formed k ≡ true → total ≡ size (lengths_of k) → total ≤ length out
-    → after ≡ paste out 0 k.packets total
-    → ◌≡◌ {A = Said ℕ × List ℕ} (answers (count_of k), after) (listing k out)
-list_law k out after total well e room q =
-    let cut : take total (take total k.packets) ≡ take total k.packets = take-take total total k.packets (omega arith) in
-    let same : paste out 0 (take total k.packets) total ≡ paste out 0 k.packets total = rw cut in
-    rw (q, ← same, e) (sym (listing_is k out well (rw e at room)))
+-- the bytes of packets in front are among those of all
+pub gone_within : (k : Store) (n : ℕ) → well_formed k ≡ true → n ≤ count_of k → size (take n k.lengths) ≤ size (lengths_of k)
+gone_within k n h few = omega (arith, sizes n (good h) few)
 
-pub answered_law : (k : Store) (last n gone total : ℕ) (ns ls bs : List ℕ) → well_formed k ≡ true
-    → n ≡ up_to last (numbers_of k) → gone ≡ size (take n k.lengths) → total ≡ size (lengths_of k)
-    → bs ≡ paste k.packets 0 (drop gone k.packets) (total - gone) → ns ≡ paste k.numbers 0 (drop n k.numbers) (count_of k - n)
-    → ls ≡ paste k.lengths 0 (drop n k.lengths) (count_of k - n)
-    → ◌≡◌ {A = Said Unit × Store} (answers tt, store_of (record { count = count_of k - n }) ns ls bs) (answering k last)
+pub dropped_law : (k : Store) (n gone total : ℕ) (ns ls bs : List ℕ) → well_formed k ≡ true → n ≤ count_of k
+    → gone ≡ size (take n k.lengths) → total ≡ size (lengths_of k)
+    → ns ≡ paste k.numbers 0 (drop n k.numbers) (count_of k - n) → ls ≡ paste k.lengths 0 (drop n k.lengths) (count_of k - n)
+    → bs ≡ paste k.packets 0 (drop gone k.packets) (total - gone)
+    → store_of (record { count = count_of k - n }) ns ls bs ≡ without n k
 unfolding without
-answered_law k last n gone total ns ls bs well en eg et eb ens els =
-    let few = answered_few (good well) last in
-    let rest : total - gone ≡ size (drop n (lengths_of k)) = let z = sizes n (good well) (omega arith) in omega arith in
-    rw (eb, ens, els, rest, eg) (rw (← en) at (sym (answering_is k well last)))
+dropped_law k n gone total ns ls bs well few eg et ens els eb =
+    let rest : total - gone ≡ size (drop n (lengths_of k)) = omega (arith, sizes n (good well) few) in
+    rw (eb, ens, els, rest, eg)
 
 pub kept_law : (k : Store) (next q c total : ℕ) (datagram bs ns ls : List ℕ) → total ≡ size (lengths_of k)
     → bs ≡ paste k.packets total datagram (length datagram)

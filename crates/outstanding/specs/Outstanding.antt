@@ -1,18 +1,15 @@
 -- The packets kept to be sent again: document 02, §3. The Rust keeps none.
 -- A call's definition takes the store as it came, and gives what is said and what is left of the lent memory.
-use Rattle.std.specs.Prelude.{ℕ, suc, ◌+◌, ◌-◌, ◌*◌, Bool, true, not, cond, ◌&&◌, List, [], ◌∷◌, map, length, take, drop, ltb, leb}
+use Rattle.std.specs.Prelude.{ℕ, suc, ◌≡◌, ◌+◌, ◌-◌, ◌*◌, Bool, true, not, cond, ◌&&◌, List, [], ◌∷◌, map, length, take, drop, ltb, leb}
 use Rattle.std.proofs.Math.Seq.{paste}
-use Rattle.refusal.specs.Refusal.{number_of}
 use Rattle.refusal.specs.Said.{Said, answers, refuses, checks}
 use Rattle.lists.specs.Rising.{rising}
 use Rattle.lists.specs.Within.{all_within}
 use Rattle.packet.specs.Packet.{Packet, joined}
 use Rattle.packet.specs.Sizes.{payload_size}
 use Rattle.outstanding.specs.declared.Outstanding.{Outstanding}
-use Rattle.outstanding.specs.declared.Listed.{Listed}
-use Rattle.outstanding.specs.declared.Listed.TheVariants as list
-use Rattle.outstanding.specs.declared.Dropped.{Dropped}
-use Rattle.outstanding.specs.declared.Dropped.TheVariants as dropping
+use Rattle.outstanding.specs.declared.StoreView.{StoreView}
+use Rattle.outstanding.specs.declared.StoreViewMut.{StoreViewMut}
 
 -- "at most 64 of them"
 unfoldable pub places : ℕ
@@ -28,6 +25,17 @@ pub record Store : Type 0 where
 
 abbrev pub store_of : Outstanding → List ℕ → List ℕ → List ℕ → Store
 store_of o numbers lengths packets = record { state = o; numbers = numbers; lengths = lengths; packets = packets }
+
+-- the store that a view reads, and the one that a view to change has now
+abbrev pub store_in : StoreView → Store
+store_in v = store_of v.state v.numbers.now v.lengths.now v.packets.now
+
+abbrev pub store_now : StoreViewMut → Store
+store_now v = store_of v.state v.numbers.now v.lengths.now v.packets.now
+
+-- a call leaves in a view the lists that were lent, so that who lent them learns what they hold
+abbrev pub SameLent : StoreViewMut → StoreViewMut → Type 0
+SameLent a b = (b.numbers.ghost_name ≡ a.numbers.ghost_name) × (b.lengths.ghost_name ≡ a.lengths.ghost_name) × (b.packets.ghost_name ≡ a.packets.ghost_name)
 
 -- "Fresh has an empty store"
 abbrev pub fresh : Outstanding
@@ -114,17 +122,3 @@ without n k = record {
 
 unfoldable pub answering : Store → ℕ → Said Unit × Store
 answering k last = checks ((not (well_formed k), 12) ∷ []) (λ n. (refuses n, k)) (answers tt, without (up_to last (numbers_of k)) k)
-
--- ---- the answers in the papers' terms
-
-abbrev pub listed_says : Listed → Said ℕ
-listed_says (list.Packets n) = answers n
-listed_says (list.Refused r) = refuses (number_of r)
-
-abbrev pub dropped_says : Dropped → Said Unit
-dropped_says (dropping.Left o) = answers tt
-dropped_says (dropping.Refused r) = refuses (number_of r)
-
-abbrev pub state_after : Outstanding → Dropped → Outstanding
-state_after o (dropping.Left p) = p
-state_after o (dropping.Refused r) = o

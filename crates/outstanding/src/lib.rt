@@ -2,288 +2,227 @@
 // Proved: what each call answers, and what it leaves of the state and of every lent list, is the definition's, on every input.
 #![tactic(auto)]
 
-ghost use Rattle.std.specs.Prelude.{◌≡◌, true, ◌&&◌, List, ℕ, ◌+◌, ◌-◌, ◌≤◌, length, take, drop};
-ghost use Rattle.std.proofs.Math.Seq.{paste};
-ghost use Rattle.refusal.specs.Said.{Said};
+ghost use Rattle.std.specs.Prelude.{◌≡◌, true, ℕ, ◌+◌, ◌≤◌, List, length};
+ghost use Rattle.refusal.specs.Said.{Said, says};
 ghost use Rattle.lists.specs.Numbers.{largest};
 ghost use Rattle.lists.specs.Rising.{rising};
 ghost use Rattle.lists.specs.Within.{all_within};
 ghost use Rattle.packet.specs.Sizes.{payload_size};
-ghost use Rattle.outstanding.specs.Outstanding.{Store, store_of, fresh, lengths_of, size, roomy, well_formed, well_formed_below, listing, up_to, answering};
-ghost use Rattle.outstanding.specs.Outstanding.{listed_says, dropped_says, state_after};
+ghost use Rattle.outstanding.specs.Outstanding.{Store, store_in, store_now, SameLent, fresh, numbers_of, lengths_of, size, roomy, well_formed, well_formed_below, listing, up_to, without, answering};
 ghost use Rattle.outstanding.specs.Steps.{counting, sizes_for, kept_as};
 
-use parts::smaller;
+use lists::longest;
 use refusal::Refusal;
 
 // The most packets that are kept.
 pub const PLACES: usize = 64;
 
+const HEADER_SIZE: usize = 20;
+
 const PAYLOAD_SIZE: usize = 1500;
 
 // A packet with the longest payload.
-const PACKET_SIZE: usize = 20 + PAYLOAD_SIZE;
+const PACKET_SIZE: usize = HEADER_SIZE + PAYLOAD_SIZE;
 
-// How many packets are kept. The rest is lent beside it: their numbers and payload lengths, a cell to each, and the packets whole and end to end.
+// How many packets are kept: all of the store that is not lent.
 #[repr(C)]
-#[derive(Clone, Copy)]
+#[derive(Clone, Copy, Debug, Default, PartialEq, Eq)]
 pub struct Outstanding {
     pub count: usize,
 }
 
+impl Outstanding {
+    pub fn new() -> Self
+        ensures { result ≡ fresh }
+    {
+        Self::default()
+    }
+}
+
+// A store as it is read: its state, and what is lent beside it, the packets' numbers and payload lengths, a cell to each, and the packets whole and end to end.
 #[derive(Clone, Copy)]
-pub enum Listed {
-    Packets(usize),
-    Refused(Refusal),
+pub struct StoreView<'a> {
+    pub state: Outstanding,
+    pub numbers: &'a [u64],
+    pub lengths: &'a [u32],
+    pub packets: &'a [u8],
 }
 
-#[derive(Clone, Copy)]
-pub enum Dropped {
-    Left(Outstanding),
-    Refused(Refusal),
+// A store as it is changed.
+#[derive(Drop)]
+pub struct StoreViewMut<'a> {
+    pub state: Outstanding,
+    pub numbers: &'a mut [u64],
+    pub lengths: &'a mut [u32],
+    pub packets: &'a mut [u8],
 }
 
-pub fn new() -> Outstanding
-    ensures { result ≡ fresh }
+fn is_rising(numbers: &[u64]) -> bool
+    ensures { result ≡ rising numbers.now }
 {
-    Outstanding { count: 0 }
+    numbers.is_sorted_by(|number, next| number < next)
 }
 
-fn is_roomy(numbers: &[u64], lengths: &[u32], packets: &[u8]) -> bool
-    ensures { result ≡ roomy numbers.now lengths.now packets.now }
+#[tactic(auto, using(lists::proofs::Within::longest_within), unfolding(packet::specs::Sizes::payload_size))]
+fn are_payloads(lengths: &[u32]) -> bool
+    ensures { result ≡ all_within payload_size lengths.now }
 {
-    if numbers.len() < PLACES {
-        return false;
-    }
-    if lengths.len() < PLACES {
-        return false;
-    }
-    packets.len() >= PLACES * PACKET_SIZE
+    longest(lengths) as usize <= PAYLOAD_SIZE
 }
 
-// The two tests of the first `count` cells, in one pass.
-fn cells_fit(count: usize, numbers: &[u64], lengths: &[u32]) -> bool
-    requires { (count ≤ length numbers.now) × (count ≤ length lengths.now) }
-    ensures { result ≡ (rising (take count numbers.now) && all_within payload_size (take count lengths.now)) }
+// The bytes of packets with these payload lengths.
+#[tactic(auto, using(crate::proofs::Loops::size_is))]
+fn size_of(lengths: &[u32]) -> usize
+    requires { length lengths.now ≤ 64 }
+    ensures { result ≡ size lengths.now }
 {
-    let mut i = 0;
-    while i < count {
-        if lengths[i] as usize > PAYLOAD_SIZE {
-            return false;
-        }
-        if count - i > 1 && numbers[i] >= numbers[i + 1] {
-            return false;
-        }
-        i += 1;
-    }
-    true
+    lengths
+        .iter()
+        .map(|length| HEADER_SIZE + *length as usize)
+        .sum()
 }
 
-// Refusal 12's test, without a next number.
-pub fn well_formed(o: Outstanding, numbers: &[u64], lengths: &[u32], packets: &[u8]) -> bool
-    ensures { result ≡ well_formed (store_of o numbers.now lengths.now packets.now) }
+// Writes `next`, `next` + 1 and so on.
+fn put_numbers(numbers: &mut [u64], next: u64)
+    requires { next + length numbers.old ≤ largest }
+    ensures { numbers.new ≡ counting next (length numbers.old) }
 {
-    if !is_roomy(numbers, lengths, packets) {
-        return false;
-    }
-    if o.count > PLACES {
-        return false;
-    }
-    cells_fit(o.count, numbers, lengths)
-}
-
-// Refusal 12's test with a next number: as the numbers rise, only the last is compared with it.
-pub fn well_formed_below(
-    o: Outstanding,
-    next: u64,
-    numbers: &[u64],
-    lengths: &[u32],
-    packets: &[u8],
-) -> bool
-    ensures { result ≡ well_formed_below next (store_of o numbers.now lengths.now packets.now) }
-{
-    if !well_formed(o, numbers, lengths, packets) {
-        return false;
-    }
-    if o.count == 0 {
-        return true;
-    }
-    numbers[o.count - 1] < next
-}
-
-// The bytes of the first n packets.
-fn size_of(lengths: &[u32], n: usize) -> usize
-    requires { (n ≤ 64) × (n ≤ length lengths.now) }
-    ensures { result ≡ size (take n lengths.now) }
-{
-    let mut total = 0;
-    let mut i = 0;
-    while i < n {
-        total = total + 20 + lengths[i] as usize;
-        i += 1;
-    }
-    total
-}
-
-// Copies the first n bytes, the front part first: `copy_part`, which is one move of memory, takes 65,536 at a time, and 64 packets have up to 97,280.
-fn copy_front(src: &[u8], n: usize, dst: &mut [u8])
-    requires { (n ≤ 131072) × (n ≤ length src.now) × (n ≤ length dst.old) }
-    ensures { dst.new ≡ paste dst.old 0 src.now n }
-{
-    if n <= 65536 {
-        parts::copy_part(src, 0, n, dst, 0);
-        return;
-    }
-    parts::copy_part(src, 0, 65536, dst, 0);
-    parts::copy_part(src, 65536, n - 65536, dst, 65536);
-}
-
-pub fn list_into(
-    o: Outstanding,
-    out: &mut [u8],
-    numbers: &[u64],
-    lengths: &[u32],
-    packets: &[u8],
-) -> Listed
-    ensures { ◌≡◌ {A = Said ℕ × List ℕ} (listed_says result, out.new)
-        (listing (store_of o numbers.now lengths.now packets.now) out.old) }
-{
-    if !well_formed(o, numbers, lengths, packets) {
-        return Listed::Refused(Refusal::Malformed);
-    }
-    let total = size_of(lengths, o.count);
-    if out.len() < total {
-        return Listed::Refused(Refusal::BufferShort);
-    }
-    copy_front(packets, total, out);
-    Listed::Packets(o.count)
-}
-
-// How many of the first `count` numbers are at most the last one answered.
-fn answered_by(last: u64, numbers: &[u64], count: usize) -> usize
-    requires { count ≤ length numbers.now }
-    ensures { result ≡ up_to last (take count numbers.now) }
-{
-    let mut i = 0;
-    while i < count {
-        if numbers[i] > last {
-            return i;
-        }
-        i += 1;
-    }
-    count
-}
-
-// Moves the n bytes from a on to the first ones, the front part first: `move_part` takes 65,536 at a time, and 63 packets have up to 95,760.
-fn move_down(packets: &mut [u8], a: usize, n: usize)
-    requires { (n ≤ 131072) × (a + n ≤ length packets.old) }
-    ensures { packets.new ≡ paste packets.old 0 (drop a packets.old) n }
-{
-    if n <= 65536 {
-        parts::move_part(packets, a, n, 0);
-        return;
-    }
-    parts::move_part(packets, a, 65536, 0);
-    parts::move_part(packets, a + 65536, n - 65536, 65536);
-}
-
-// Moves the numbers from k to count down to the first cells.
-fn shift_numbers(numbers: &mut [u64], k: usize, count: usize)
-    requires { (k ≤ count) × (count ≤ length numbers.old) }
-    ensures { numbers.new ≡ paste numbers.old 0 (drop k numbers.old) (count - k) }
-{
-    let rest = count - k;
-    let mut i = 0;
-    while i < rest {
-        numbers[i] = numbers[i + k];
-        i += 1;
+    for (i, number) in numbers.iter_mut().enumerate() {
+        *number = next + i as u64;
     }
 }
 
-// The lengths likewise.
-fn shift_lengths(lengths: &mut [u32], k: usize, count: usize)
-    requires { (k ≤ count) × (count ≤ length lengths.old) }
-    ensures { lengths.new ≡ paste lengths.old 0 (drop k lengths.old) (count - k) }
+// Writes the lengths of the payloads that q bytes fill.
+fn put_lengths(lengths: &mut [u32], q: usize)
+    ensures { lengths.new ≡ sizes_for q (length lengths.old) }
 {
-    let rest = count - k;
-    let mut i = 0;
-    while i < rest {
-        lengths[i] = lengths[i + k];
-        i += 1;
-    }
-}
-
-// Drops the packets up to the last number that the window's `consume` answered. What is left moves to the front; nothing else is written.
-pub fn drop_answered(
-    o: Outstanding,
-    last: u64,
-    numbers: &mut [u64],
-    lengths: &mut [u32],
-    packets: &mut [u8],
-) -> Dropped
-    ensures { ◌≡◌ {A = Said Unit × Store} (dropped_says result, store_of (state_after o result) numbers.new lengths.new packets.new)
-        (answering (store_of o numbers.old lengths.old packets.old) last) }
-{
-    if !well_formed(o, numbers, lengths, packets) {
-        return Dropped::Refused(Refusal::Malformed);
-    }
-    let count = o.count;
-    let k = answered_by(last, numbers, count);
-    let gone = size_of(lengths, k);
-    let total = size_of(lengths, count);
-    move_down(packets, gone, total - gone);
-    shift_numbers(numbers, k, count);
-    shift_lengths(lengths, k, count);
-    Dropped::Left(Outstanding { count: count - k })
-}
-
-// Writes `next`, `next` + 1 and so on, c numbers, from the cell `at` on.
-fn put_numbers(numbers: &mut [u64], at: usize, next: u64, c: usize)
-    requires { (at + c ≤ length numbers.old) × (next + c ≤ largest) }
-    ensures { numbers.new ≡ paste numbers.old at (counting next c) c }
-{
-    let mut i = 0;
-    while i < c {
-        numbers[at + i] = next + i as u64;
-        i += 1;
-    }
-}
-
-// Writes the lengths of the c payloads that q bytes fill, from the cell `at` on.
-fn put_lengths(lengths: &mut [u32], at: usize, q: usize, c: usize)
-    requires { at + c ≤ length lengths.old }
-    ensures { lengths.new ≡ paste lengths.old at (sizes_for q c) c }
-{
-    let mut i = 0;
     let mut left = q;
-    while i < c {
-        let part = smaller(PAYLOAD_SIZE, left);
-        lengths[at + i] = part as u32;
+    for length in lengths.iter_mut() {
+        let part = PAYLOAD_SIZE.min(left);
+        *length = part as u32;
         left -= part;
-        i += 1;
     }
 }
 
-// Keeps c packets more, with one copy of the datagram that they stand in: for packing, which has shown that they fit.
-pub fn keep(
-    o: Outstanding,
-    next: u64,
-    q: usize,
-    c: usize,
-    datagram: &[u8],
-    numbers: &mut [u64],
-    lengths: &mut [u32],
-    packets: &mut [u8],
-) -> Outstanding
-    requires { (o.count + c ≤ 64) × (next + c ≤ largest) × (o.count + c ≤ length numbers.old) × (o.count + c ≤ length lengths.old)
-        × (size (lengths_of (store_of o numbers.old lengths.old packets.old)) + length datagram.now ≤ length packets.old) × (length datagram.now ≤ 65536) }
-    ensures { store_of result numbers.new lengths.new packets.new
-        ≡ kept_as (store_of o numbers.old lengths.old packets.old) next q c datagram.now }
-{
-    let count = o.count;
-    let total = size_of(lengths, count);
-    parts::copy_part(datagram, 0, datagram.len(), packets, total);
-    put_numbers(numbers, count, next, c);
-    put_lengths(lengths, count, q, c);
-    Outstanding { count: count + c }
+impl StoreView<'_> {
+    #[tactic(auto, unfolding(crate::specs::Outstanding::places, packet::specs::Sizes::payload_size))]
+    fn is_roomy(&self) -> bool
+        ensures { result ≡ roomy self.now.numbers.now self.now.lengths.now self.now.packets.now }
+    {
+        self.numbers.len() >= PLACES
+            && self.lengths.len() >= PLACES
+            && self.packets.len() >= PLACES * PACKET_SIZE
+    }
+
+    // Refusal 12's test, without a next number.
+    #[tactic(auto, using(crate::proofs::Laws::roomy_is), unfolding(crate::specs::Outstanding::well_formed, crate::specs::Outstanding::places))]
+    pub fn well_formed(&self) -> bool
+        ensures { result ≡ well_formed (store_in self.now) }
+    {
+        let count = self.state.count;
+        self.is_roomy()
+            && count <= PLACES
+            && is_rising(&self.numbers[..count])
+            && are_payloads(&self.lengths[..count])
+    }
+
+    // Refusal 12's test with a next number: as the numbers rise, only the last is compared with it.
+    #[tactic(auto, using(crate::proofs::Laws::room), unfolding(crate::specs::Outstanding::well_formed_below))]
+    pub fn well_formed_below(&self, next: u64) -> bool
+        ensures { result ≡ well_formed_below next (store_in self.now) }
+    {
+        let count = self.state.count;
+        self.well_formed() && (count == 0 || self.numbers[count - 1] < next)
+    }
+
+    // The bytes of all that is kept.
+    fn size(&self) -> usize
+        requires { (self.now.state.count ≤ 64) × (self.now.state.count ≤ length self.now.lengths.now) }
+        ensures { result ≡ size (lengths_of (store_in self.now)) }
+    {
+        size_of(&self.lengths[..self.state.count])
+    }
+
+    // How many packets have at most the last number answered: as the numbers rise, those in front.
+    fn answered_by(&self, last: u64) -> usize
+        requires { well_formed (store_in self.now) ≡ true }
+        ensures { result ≡ up_to last (numbers_of (store_in self.now)) }
+    {
+        self.numbers[..self.state.count].partition_point(|number| *number <= last)
+    }
+
+    #[tactic(auto, unfolding(crate::specs::Outstanding::listing))]
+    pub fn list_into(&self, out: &mut [u8]) -> Result<usize, Refusal>
+        ensures { ◌≡◌ {A = Said ℕ × List ℕ} (says (λ n. n) result, out.new) (listing (store_in self.now) out.old) }
+    {
+        if !self.well_formed() {
+            return Err(Refusal::Malformed);
+        }
+        let total = self.size();
+        if out.len() < total {
+            return Err(Refusal::BufferShort);
+        }
+        out[..total].copy_from_slice(&self.packets[..total]);
+        Ok(self.state.count)
+    }
+}
+
+impl StoreViewMut<'_> {
+    pub fn view(&self) -> StoreView<'_>
+        ensures { store_in result ≡ store_now self.now }
+    {
+        StoreView {
+            state: self.state,
+            numbers: self.numbers,
+            lengths: self.lengths,
+            packets: self.packets,
+        }
+    }
+
+    // Drops the first n packets. What is left moves to the front; nothing else is written. The bytes go by `move_part`, one move of memory, where `copy_within`
+    // takes 1.4 to 2.2 times as long.
+    fn drop_first(&mut self, n: usize)
+        requires { (well_formed (store_now self.old) ≡ true) × (n ≤ self.old.state.count) }
+        ensures lent { SameLent self.old self.new }
+        ensures left { store_now self.new ≡ without n (store_now self.old) }
+    {
+        let count = self.state.count;
+        let store = self.view();
+        let gone = size_of(&store.lengths[..n]);
+        let total = store.size();
+        self.numbers.copy_within(n..count, 0);
+        self.lengths.copy_within(n..count, 0);
+        parts::move_part(self.packets, gone, total - gone, 0);
+        self.state.count -= n;
+    }
+
+    // Drops the packets up to the last number that the window's `consume` answered.
+    pub fn drop_answered(&mut self, last: u64) -> Result<(), Refusal>
+        ensures lent { SameLent self.old self.new }
+        ensures left { ◌≡◌ {A = Said Unit × Store} (says (λ u. u) result, store_now self.new) (answering (store_now self.old) last) }
+    {
+        let store = self.view();
+        if !store.well_formed() {
+            return Err(Refusal::Malformed);
+        }
+        let answered = store.answered_by(last);
+        self.drop_first(answered);
+        Ok(())
+    }
+
+    // Keeps c packets more, with one copy of the datagram that they stand in: for packing, which has shown that they fit.
+    pub fn keep(&mut self, next: u64, q: usize, c: usize, datagram: &[u8])
+        requires { (self.old.state.count + c ≤ 64) × (next + c ≤ largest)
+            × (self.old.state.count + c ≤ length self.old.numbers.now) × (self.old.state.count + c ≤ length self.old.lengths.now)
+            × (size (lengths_of (store_now self.old)) + length datagram.now ≤ length self.old.packets.now) }
+        ensures lent { SameLent self.old self.new }
+        ensures kept { store_now self.new ≡ kept_as (store_now self.old) next q c datagram.now }
+    {
+        let count = self.state.count;
+        let total = self.view().size();
+        self.packets[total..total + datagram.len()].copy_from_slice(datagram);
+        put_numbers(&mut self.numbers[count..count + c], next);
+        put_lengths(&mut self.lengths[count..count + c], q);
+        self.state.count += c;
+    }
 }

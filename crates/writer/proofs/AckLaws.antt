@@ -26,11 +26,10 @@ use Rattle.ring_buffer.specs.declared.RingBuffer.{RingBuffer}
 use Rattle.ring_buffer.proofs.Blanked.{length-blanked}
 use Rattle.ring_buffer.proofs.Laws.{taken, taken_are, length-contents, popped_keeps, popped-contents}
 use Rattle.writer.specs.Acks.{ack_count, acks_taken, ack_header, ack_bytes, any_too_large, ack_checks, packed, Outcome, leaves, consumes_acks}
-use Rattle.writer.specs.AckSteps.{written}
 use Rattle.writer.specs.declared.acks.AcksPacked.{AcksPacked}
 use Rattle.writer.proofs.AckCount.{count_queued}
 use Rattle.writer.proofs.AckChecks.{ring_well}
-use Rattle.writer.proofs.AckTurns.{length_acks, ack_small, small_first}
+use Rattle.writer.proofs.AckTurns.{written, length_acks, ack_small, small_first}
 
 -- ---- headers end to end, read again
 

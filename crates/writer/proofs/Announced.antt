@@ -48,8 +48,9 @@ module _ (s : List ℕ) where
       unfolding payload_bytes_by
       announced_short e h = rw (whole, lt-ltb (length s) (at + 20 + field_at s at) (omega arith))
 
-      pub announced_next : {field : ℕ} → field ≡ field_at s at → field ≤ length s - at - 20 → announced s at ≡ field + announced s (at + 20 + field)
+      pub announced_next : {field : ℕ} → field ≡ field_at s at → field ≤ length s - at - 20 → announced s at ≡ field + announced s (at + (20 + field))
       unfolding payload_bytes_by
       announced_next e h =
-          rw (e, whole, le-ltb (length s) (at + 20 + field_at s at) (omega arith))
+          let next : at + (20 + field_at s at) ≡ at + 20 + field_at s at = omega arith in
+          rw (e, next, whole, le-ltb (length s) (at + 20 + field_at s at) (omega arith))
           (ap (λ (n : ℕ). field_at s at + n) (steps_enough (length s - at) (suc (length s - (at + 20 + field_at s at))) s (at + 20 + field_at s at) (omega arith) (omega arith)))

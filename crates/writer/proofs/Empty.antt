@@ -90,13 +90,13 @@ module _ (k : Store) (next src dst : ℕ) (out : List ℕ) where
           -- what `keep` asks
           pub empty_fits : (count_of k ≡ places → ⊥)
               → (count_of k + 1 ≤ 64) × (next + 1 ≤ largest) × (count_of k + 1 ≤ length k.numbers) × (count_of k + 1 ≤ length k.lengths)
-              × (size (lengths_of k) + length (take 20 e) ≤ length k.packets) × (length (take 20 e) ≤ 65536)
+              × (size (lengths_of k) + length (take 20 e) ≤ length k.packets)
           unfolding places
           empty_fits free =
               let g = (below_good next well).0 in
               let few : count_of k < places = omega (arith, free, g.few) in
               let fits = kept_fits next (one src dst next) well (empty_keepable src dst next k few) in
-              (omega arith, omega arith, omega (arith, g.numbers), omega (arith, g.lengths), rw datagram fits, rw (datagram, length-one) (omega arith))
+              (omega arith, omega arith, omega (arith, g.numbers), omega (arith, g.lengths), rw datagram fits)
 
           pub empty_sends : {s : Store} → (count_of k ≡ places → ⊥) → s ≡ kept_as k next 0 1 (take 20 e)
               → ◌≡◌ {A = SendingEmpty} (record { said = answers (next + 1); out = e; store = s }) (packs_empty k next src dst out)

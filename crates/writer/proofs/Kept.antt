@@ -8,6 +8,7 @@ use native.Mathlib.Omega.{arith}
 use lib.ListN.{length, take, length-take}
 use lib.Seq.{paste}
 use lib.Dec.{eqb}
+use Rattle.std.specs.Prelude.{Result, Ok, Err}
 use borrow.Author.Tests.{eq-eqb, ne_eqb}
 use Rattle.refusal.specs.declared.Refusal.{Refusal}
 use Rattle.refusal.specs.Refusal.{number_of}
@@ -19,8 +20,6 @@ use Rattle.outstanding.specs.Outstanding.{Store, places, count_of, lengths_of, s
 use Rattle.outstanding.specs.Steps.{kept_as}
 use Rattle.outstanding.proofs.Laws.{below_good, kept_fits}
 use Rattle.writer.specs.declared.DataPacked.{DataPacked}
-use Rattle.writer.specs.declared.Taken.{Taken}
-use Rattle.writer.specs.declared.Taken.TheVariants as taken
 use Rattle.writer.specs.Packing.{Queue, payload_size, byte_limit, packed_size, packets_made, taking, data_checks, Outcome, leaves, packing}
 use Rattle.writer.specs.Sending.{limit_for, Sending, unsent, sent, consumes_data}
 use Rattle.writer.proofs.Made.{Answered, answered, written_made, made_counted, length_made}
@@ -46,8 +45,8 @@ module _ (k : Store) (queue : Queue) (next src dst : ℕ) (out : List ℕ) where
   abbrev decided : Sending
   decided = checks ((eqb (count_of k) places, 15) ∷ []) (unsent k out) (sent k queue next src dst out)
 
-  module _ (well : well_formed_below next k ≡ true) {limit : ℕ} (limited : limit ≡ limit_for k) {t : Taken} {e : List ℕ} (did : leaves t e ≡ packing limit queue next src dst out) where
-    pub refuses_too : {r : Refusal} → t ≡ taken.Refused r → unsent k e (number_of r) ≡ defined
+  module _ (well : well_formed_below next k ≡ true) {limit : ℕ} (limited : limit ≡ limit_for k) {t : Result DataPacked Refusal} {e : List ℕ} (did : leaves t e ≡ packing limit queue next src dst out) where
+    pub refuses_too : {r : Refusal} → t ≡ Err r → unsent k e (number_of r) ≡ defined
     unfolding consumes_data packing
     refuses_too {r} is = rw well (by (checked refused packed cs) (rw (is, limited) at did))
       where
@@ -60,7 +59,7 @@ module _ (k : Store) (queue : Queue) (next src dst : ℕ) (out : List ℕ) where
             let number : number_of r ≡ n = ap (λ (o : Outcome). refusal_in o.0) (q ∙ p) in
             rw (number, ap (λ (o : Outcome). o.1) (q ∙ p)) (sym (failed_is (unsent k out) decided cs f))
 
-    module _ {d : DataPacked} (is : t ≡ taken.Packed d) where
+    module _ {d : DataPacked} (is : t ≡ Ok d) where
       answer : ◌≡◌ {A = Outcome} (answers d, e) (packing (limit_for k) queue next src dst out)
       answer = rw (is, limited) at did
 
@@ -117,11 +116,10 @@ module _ (k : Store) (queue : Queue) (next src dst : ℕ) (out : List ℕ) where
 
       -- what `keep` asks
       pub keep_fits : (count_of k + d.packets ≤ 64) × (next + d.packets ≤ largest) × (count_of k + d.packets ≤ length k.numbers) × (count_of k + d.packets ≤ length k.lengths)
-          × (size (lengths_of k) + length (take (d.bytes + 20 * d.packets) e) ≤ length k.packets) × (length (take (d.bytes + 20 * d.packets) e) ≤ 65536)
+          × (size (lengths_of k) + length (take (d.bytes + 20 * d.packets) e) ≤ length k.packets)
       unfolding places
       keep_fits =
           let g = (below_good next well).0 in
           let c = made_keepable k src dst next queue.bytes well in
           let room : count_of k + d.packets ≤ places = omega (arith, c.room, count) in
-          let short : length (take (d.bytes + 20 * d.packets) e) ≤ 65536 = omega (arith, small, length-take (d.bytes + 20 * d.packets) e) in
-          (room, facts.numbers, omega (arith, g.numbers), omega (arith, g.lengths), rw datagram (kept_fits next made well c), short)
+          (room, facts.numbers, omega (arith, g.numbers), omega (arith, g.lengths), rw datagram (kept_fits next made well c))

@@ -1,5 +1,5 @@
 pub mod RustPacking
-pub mod Queue
+pub mod Entries
 pub mod Run
 pub mod Packed
 pub mod Announced
@@ -10,5 +10,4 @@ pub mod Kept
 pub mod AckCount
 pub mod AckChecks
 pub mod AckTurns
-pub mod AckPacking
 pub mod AckLaws

@@ -1,6 +1,6 @@
--- Each return of `consume_data_up_to`: the checks in their order, then what was written and what leaves the queue.
+-- Each return of `pack_up_to`: the checks in their order, then what was written and what leaves the queue.
 -- Assumes nothing.
-use Prim.Native.Nat.{ℕ, ◌+◌, ◌<◌, ◌≤◌, min}
+use Prim.Native.Nat.{ℕ, ◌+◌, ◌/◌, ◌%◌, ◌<◌, ◌≤◌, min}
 use mathlib.Core.Path.{◌≡◌, ap}
 use mathlib.Core.Bool.{true, false}
 use mathlib.Core.List.{List}
@@ -11,7 +11,12 @@ use lib.Dec.{eqb}
 use borrow.Author.Tests.{lt-ltb, le-ltb}
 use Rattle.refusal.specs.Said.{answers, refuses}
 use Rattle.lists.specs.Numbers.{largest}
-use Rattle.writer.specs.Packing.{queued, packets_for, packed_size, all_packed, removed, sum, Outcome, packing}
+use Rattle.writer.specs.Packing.{payload_size, queued, packets_for, packed_size, all_packed, removed, sum, Outcome, packing}
+
+-- a quotient rounded up, as `div_ceil` has it
+pub packets_ceil : (q : ℕ) → q / payload_size + min 1 (q % payload_size) ≡ packets_for q
+unfolding payload_size
+packets_ceil q = omega arith
 
 module _ (limit : ℕ) (bytes lengths : List ℕ) (next src dst : ℕ) (out : List ℕ) where
   abbrev defined : Outcome

@@ -1,7 +1,6 @@
 -- Packing queued acks into a datagram: document 01, "From the queue to a datagram", its second paragraph. Reference: `consume_acks_into`.
 use Rattle.std.specs.Prelude.{ℕ, ◌+◌, ◌-◌, ◌*◌, ◌/◌, min, Bool, false, not, ◌&&◌, ◌||◌, List, [], ◌∷◌, ◌++◌, length, take, ltb, eqb}
 use Rattle.std.proofs.Math.Seq.{paste}
-use Rattle.refusal.specs.Refusal.{number_of}
 use Rattle.refusal.specs.Said.{Said, answers, refuses, checks}
 use Rattle.header.specs.Header.{header_bytes, plain_header}
 use Rattle.header.specs.declared.BluefinHeader.{BluefinHeader}
@@ -10,9 +9,8 @@ unfoldable pub use Rattle.packet.specs.Sizes.{datagram_limit}
 use Rattle.ring_buffer.specs.Ring.{well_formed, contents, popped, blanked}
 use Rattle.ring_buffer.specs.declared.AckData.{AckData}
 use Rattle.ring_buffer.specs.declared.RingBuffer.{RingBuffer}
+use Rattle.ring_buffer.specs.declared.RingViewMut.{RingViewMut}
 use Rattle.writer.specs.declared.acks.AcksPacked.{AcksPacked}
-use Rattle.writer.specs.declared.acks.AcksAnswer.{AcksAnswer}
-use Rattle.writer.specs.declared.acks.AcksAnswer.TheVariants as acks_answer
 
 -- k: "the smaller of the queued records and (15,200 − used) / 20 rounded down (0 if used is above 15,200)"
 abbrev pub ack_count : RingBuffer → ℕ → ℕ
@@ -53,15 +51,6 @@ ack_checks g capacity used room over =
 abbrev pub packed : RingBuffer → ℕ → AcksPacked
 packed g used = record { acks = ack_count g used; to_send = not (eqb g.len 0) && ltb 0 (used + 20 * ack_count g used) }
 
-abbrev pub acks_says : AcksAnswer → Said AcksPacked
-acks_says (acks_answer.Packed h p) = answers p
-acks_says (acks_answer.Refused r) = refuses (number_of r)
-
--- the ring after the call was given g: the one handed back, or g itself
-abbrev pub ring_after : RingBuffer → AcksAnswer → RingBuffer
-ring_after g (acks_answer.Packed h p) = h
-ring_after g (acks_answer.Refused r) = g
-
 -- what the call says, and the ring, the cells and the output that it leaves
 pub record Outcome : Type 0 where
   pub said : Said AcksPacked
@@ -71,6 +60,10 @@ pub record Outcome : Type 0 where
 
 abbrev pub leaves : Said AcksPacked → RingBuffer → List AckData → List ℕ → Outcome
 leaves s g ys out = record { said = s; ring = g; cells = ys; out = out }
+
+-- what a call says, with the ring and the cells as they are in the view
+abbrev pub leaving : Said AcksPacked → RingViewMut → List ℕ → Outcome
+leaving s v out = leaves s v.state v.records.now out
 
 -- "from `used` on ..; other bytes stay"
 unfoldable pub consumes_acks : RingBuffer → List AckData → ℕ → ℕ → ℕ → List ℕ → Outcome

@@ -1,14 +1,11 @@
 -- Making an empty data packet and keeping it: document 02, §5, "to show that it is awake". The Rust makes none.
-use Rattle.std.specs.Prelude.{ℕ, ◌+◌, Bool, not, List, [], ◌∷◌, length, ltb, eqb}
+use Rattle.std.specs.Prelude.{ℕ, ◌+◌, Bool, not, List, [], ◌∷◌, length, ltb, eqb, Result}
 use Rattle.std.proofs.Math.Seq.{paste}
-use Rattle.refusal.specs.Refusal.{number_of}
-use Rattle.refusal.specs.Said.{Said, answers, refuses, checks}
+use Rattle.refusal.specs.declared.Refusal.{Refusal}
+use Rattle.refusal.specs.Said.{Said, says, answers, refuses, checks}
 use Rattle.lists.specs.Numbers.{largest}
 use Rattle.packet.specs.Packet.{Packet, packet_bytes}
-use Rattle.outstanding.specs.Outstanding.{Store, store_of, places, count_of, well_formed_below, keeping}
-use Rattle.outstanding.specs.declared.Outstanding.{Outstanding}
-use Rattle.writer.specs.declared.EmptyAnswer.{EmptyAnswer}
-use Rattle.writer.specs.declared.EmptyAnswer.TheVariants as empty_answer
+use Rattle.outstanding.specs.Outstanding.{Store, places, count_of, well_formed_below, keeping}
 use Rattle.writer.specs.Packing.{data_packet}
 
 -- "The empty packet, written as packing writes one, takes the sender's next number"
@@ -45,16 +42,6 @@ empty_sent k next src dst out = record {
 unfoldable pub packs_empty : Store → ℕ → ℕ → ℕ → List ℕ → SendingEmpty
 packs_empty k next src dst out = checks (empty_checks k next (length out)) (empty_unsent k out) (empty_sent k next src dst out)
 
--- ---- the answer in the papers' terms
-
-abbrev pub empty_says : EmptyAnswer → Said ℕ
-empty_says (empty_answer.Packed n o) = answers n
-empty_says (empty_answer.Refused r) = refuses (number_of r)
-
-abbrev pub empty_state_after : Outstanding → EmptyAnswer → Outstanding
-empty_state_after o (empty_answer.Packed n p) = p
-empty_state_after o (empty_answer.Refused r) = o
-
--- what the call answered, and the lent lists as it left them
-abbrev pub sending_empty_of : EmptyAnswer → List ℕ → Outstanding → List ℕ → List ℕ → List ℕ → SendingEmpty
-sending_empty_of r out o numbers lengths packets = record { said = empty_says r; out = out; store = store_of (empty_state_after o r) numbers lengths packets }
+-- what the call answered, and what it left
+abbrev pub sending_empty_of : Result ℕ Refusal → List ℕ → Store → SendingEmpty
+sending_empty_of r out store = record { said = says (λ n. n) r; out = out; store = store }

@@ -5,4 +5,3 @@ pub mod RustPacking
 pub mod PayloadBytes
 pub mod Reserve
 pub mod Acks
-pub mod AckSteps

@@ -1,17 +1,16 @@
 -- Packing queued data into a datagram: document 01, "From the queue to a datagram", its first paragraph, with its 15,000 as a limit that is given.
 -- Reference: `consume_data_into`. The call itself, which keeps what it packs, is Sending.antt.
-use Rattle.std.specs.Prelude.{ℕ, zero, suc, ◌+◌, ◌-◌, ◌*◌, ◌/◌, min, Bool, not, cond, List, [], ◌∷◌, length, take, drop, ltb, leb, eqb}
+use Rattle.std.specs.Prelude.{ℕ, zero, suc, ◌+◌, ◌-◌, ◌*◌, ◌/◌, min, Bool, not, cond, List, [], ◌∷◌, length, take, drop, ltb, leb, eqb, Result}
 use Rattle.std.proofs.Math.Seq.{paste}
-use Rattle.refusal.specs.Refusal.{number_of}
-use Rattle.refusal.specs.Said.{Said, answers, refuses, checks}
+use Rattle.refusal.specs.declared.Refusal.{Refusal}
+use Rattle.refusal.specs.Said.{Said, says, answers, refuses, checks}
 use Rattle.lists.specs.Numbers.{largest}
 use Rattle.header.specs.Header.{plain_header}
 use Rattle.header.specs.declared.PacketType.TheVariants.{UnencryptedData}
 use Rattle.packet.specs.Packet.{Packet, joined}
 unfoldable pub use Rattle.packet.specs.Sizes.{payload_size}
 use Rattle.writer.specs.declared.DataPacked.{DataPacked}
-use Rattle.writer.specs.declared.Taken.{Taken}
-use Rattle.writer.specs.declared.Taken.TheVariants as taken
+use Rattle.writer.specs.declared.Queue as lent
 
 -- "A queue is entries of bytes, possibly empty: the bytes end to end and a list of lengths"
 pub record Queue : Type 0 where
@@ -20,6 +19,10 @@ pub record Queue : Type 0 where
 
 abbrev pub queued : List ℕ → List ℕ → Queue
 queued bytes lengths = record { bytes = bytes; lengths = lengths }
+
+-- the queue that is lent
+abbrev pub queue_in : lent.Queue → Queue
+queue_in q = queued q.bytes.now q.lengths.now
 
 -- "the smaller of T and 15,000 bytes are taken", "If T is below 15,000, all entries go": the limit in both places
 unfoldable pub byte_limit : ℕ
@@ -93,10 +96,6 @@ sum (l ∷ ls) = l + sum ls
 
 -- ---- the packing
 
-abbrev pub taken_says : Taken → Said DataPacked
-taken_says (taken.Packed d) = answers d
-taken_says (taken.Refused r) = refuses (number_of r)
-
 -- what a packing that is not refused answers: "q, the packets p, the next number, the entries removed, and the bytes cut from the first entry left"
 abbrev pub taking : ℕ → Queue → ℕ → DataPacked
 taking limit queue next =
@@ -122,8 +121,8 @@ data_checks limit queue next room =
 abbrev pub Outcome : Type 0
 Outcome = Said DataPacked × List ℕ
 
-abbrev pub leaves : Taken → List ℕ → Outcome
-leaves r out = (taken_says r, out)
+abbrev pub leaves : Result DataPacked Refusal → List ℕ → Outcome
+leaves r out = (says (λ d. d) r, out)
 
 -- Written "from the start of the lent output, whose other bytes stay".
 unfoldable pub packing : ℕ → Queue → ℕ → ℕ → ℕ → List ℕ → Outcome

@@ -1,14 +1,11 @@
 -- Packing queued data and keeping what is packed: document 01's packing (Packing.antt) under document 02, §3.
-use Rattle.std.specs.Prelude.{ℕ, ◌*◌, min, Bool, not, List, [], ◌∷◌, ◌++◌, length, eqb}
+use Rattle.std.specs.Prelude.{ℕ, ◌*◌, min, Bool, not, List, [], ◌∷◌, ◌++◌, length, eqb, Result}
 use Rattle.std.proofs.Math.Seq.{paste}
-use Rattle.refusal.specs.Refusal.{number_of}
-use Rattle.refusal.specs.Said.{Said, answers, refuses, checks}
+use Rattle.refusal.specs.declared.Refusal.{Refusal}
+use Rattle.refusal.specs.Said.{Said, says, answers, refuses, checks}
 use Rattle.packet.specs.Packet.{Packet, joined}
-use Rattle.outstanding.specs.Outstanding.{Store, store_of, places, count_of, free, well_formed_below, keeping}
-use Rattle.outstanding.specs.declared.Outstanding.{Outstanding}
+use Rattle.outstanding.specs.Outstanding.{Store, places, count_of, free, well_formed_below, keeping}
 use Rattle.writer.specs.declared.DataPacked.{DataPacked}
-use Rattle.writer.specs.declared.DataAnswer.{DataAnswer}
-use Rattle.writer.specs.declared.DataAnswer.TheVariants as data_answer
 use Rattle.writer.specs.Packing.{Queue, payload_size, byte_limit, packed_size, packets_made, taking, data_checks}
 
 -- "A packing makes no more packets than there are free places: document 01's 15,000 becomes 1,500 times that many where it is less"
@@ -42,16 +39,6 @@ sent k queue next src dst out =
 unfoldable pub consumes_data : Store → Queue → ℕ → ℕ → ℕ → List ℕ → Sending
 consumes_data k queue next src dst out = checks (send_checks k queue next (length out)) (unsent k out) (sent k queue next src dst out)
 
--- ---- the answer in the papers' terms
-
-abbrev pub data_says : DataAnswer → Said DataPacked
-data_says (data_answer.Packed d o) = answers d
-data_says (data_answer.Refused r) = refuses (number_of r)
-
-abbrev pub state_after : Outstanding → DataAnswer → Outstanding
-state_after o (data_answer.Packed d p) = p
-state_after o (data_answer.Refused r) = o
-
--- what the call answered, and the lent lists as it left them
-abbrev pub sending_of : DataAnswer → List ℕ → Outstanding → List ℕ → List ℕ → List ℕ → Sending
-sending_of r out o numbers lengths packets = record { said = data_says r; out = out; store = store_of (state_after o r) numbers lengths packets }
+-- what the call answered, and what it left
+abbrev pub sending_of : Result DataPacked Refusal → List ℕ → Store → Sending
+sending_of r out store = record { said = says (λ d. d) r; out = out; store = store }

@@ -3,33 +3,38 @@
 // Proved: what each call says and leaves in lent memory is the definition's, on every input; what is packed is read back (proofs/Made.antt).
 #![tactic(auto)]
 
-ghost use Rattle.std.specs.Prelude.{◌≡◌, ℕ, ◌+◌, ◌<◌, ◌≤◌, length, take, drop, eqb};
+ghost use Rattle.std.specs.Prelude.{◌≡◌, ℕ, ◌+◌, ◌^◌, ◌<◌, ◌≤◌, SomeIff, length, eqb};
 ghost use Rattle.std.proofs.Math.Seq.{paste};
+ghost use Rattle.refusal.specs.Said.{says};
 ghost use Rattle.lists.specs.Numbers.{largest};
 ghost use Rattle.packet.specs.Packet.{packet_bytes};
-ghost use Rattle.writer.specs.Packing.{queued, packets_for, packed_size, data_packet, all_packed, removal, removed, sum, leaves, packing};
+ghost use Rattle.outstanding.specs.Outstanding.{store_now, SameLent};
+ghost use Rattle.writer.specs.Packing.{queue_in, packets_for, packed_size, data_packet, all_packed, removal, removed, sum, leaves, packing};
 ghost use Rattle.writer.specs.Sending.{consumes_data, sending_of};
 ghost use Rattle.writer.specs.Empty.{packs_empty, sending_empty_of};
-ghost use Rattle.outstanding.specs.Outstanding.{store_of};
 ghost use Rattle.writer.specs.PayloadBytes.{payload_bytes};
-ghost use Rattle.writer.specs.Reserve.{reserving, reserve_says};
+ghost use Rattle.writer.specs.Reserve.{reserving};
 
 use header::{BluefinHeader, BluefinSecurityFields, PacketType};
-use lists::LARGEST;
-use outstanding::{Outstanding, PLACES};
-use parts::smaller;
+use net::ConnectionIds;
+use outstanding::{PLACES, StoreViewMut};
 use refusal::Refusal;
 
 pub mod acks;
 
+const HEADER_SIZE: usize = net::BLUEFIN_HEADER_SIZE_BYTES;
+
 const PAYLOAD_SIZE: usize = net::MAX_BLUEFIN_PAYLOAD_SIZE_BYTES;
+
+// A packet with the longest payload.
+const PACKET_SIZE: usize = HEADER_SIZE + PAYLOAD_SIZE;
 
 // The payload bytes of a full datagram: its 15,200 bytes less ten headers.
 const BYTE_LIMIT: usize = net::MAX_BLUEFIN_PACKETS_IN_UDP_DATAGRAM * PAYLOAD_SIZE;
 
 // What a packing took and made: payload bytes, packets, the number after the last one, entries removed from the queue's front, and bytes cut
 // from the first entry left.
-#[derive(Clone, Copy)]
+#[derive(Clone, Copy, Debug, PartialEq, Eq)]
 pub struct DataPacked {
     pub bytes: usize,
     pub packets: usize,
@@ -38,38 +43,11 @@ pub struct DataPacked {
     pub bytes_cut: usize,
 }
 
-// With a packing, the store's state after it.
-#[derive(Clone, Copy)]
-pub enum DataAnswer {
-    Packed(DataPacked, Outstanding),
-    Refused(Refusal),
-}
-
-// With an empty packet, the number after it and the store's state.
-#[derive(Clone, Copy)]
-pub enum EmptyAnswer {
-    Packed(u64, Outstanding),
-    Refused(Refusal),
-}
-
 // A FIN's number, and the next one.
-#[derive(Clone, Copy)]
+#[derive(Clone, Copy, Debug, PartialEq, Eq)]
 pub struct Reservation {
     pub number: u64,
     pub next_packet_num: u64,
-}
-
-#[derive(Clone, Copy)]
-pub enum ReserveAnswer {
-    Reserved(Reservation),
-    Refused(Refusal),
-}
-
-// What a packing under a limit comes to before it is kept.
-#[derive(Clone, Copy)]
-enum Taken {
-    Packed(DataPacked),
-    Refused(Refusal),
 }
 
 // The entries that leave the queue, and the bytes cut from the first one left.
@@ -79,291 +57,223 @@ struct Removal {
     cut: usize,
 }
 
+// What is queued: the bytes of its entries end to end, and their lengths.
+#[derive(Clone, Copy)]
+pub struct Queue<'a> {
+    pub bytes: &'a [u8],
+    pub lengths: &'a [u32],
+}
+
 // A plain sum, which the compiler makes wide: fewer than 2^32 entries cannot overflow it.
+#[tactic(auto, using(crate::proofs::Entries::sum_is))]
 fn sum_of(lengths: &[u32]) -> usize
-    requires { length lengths.now < 4294967296 }
+    requires { length lengths.now < 2 ^ 32 }
     ensures { result ≡ sum lengths.now }
 {
-    let mut total = 0;
-    let mut i = 0;
-    while i < lengths.len() {
-        total += lengths[i] as usize;
-        i += 1;
-    }
-    total
+    lengths.iter().map(|length| *length as usize).sum()
 }
 
-// The test of 12 for any number of entries: it stops at the one that exceeds what is left of the total.
-fn use_up(lengths: &[u32], total: usize) -> bool
-    ensures { result ≡ eqb (sum lengths.now) total }
+// The sum for any number of entries: none where it overflows.
+fn checked_sum_of(lengths: &[u32]) -> Option<usize>
+    ensures { SomeIff result (sum lengths.now < 2 ^ 64) (sum lengths.now) }
 {
-    let mut left = total;
-    let mut i = 0;
-    while i < lengths.len() {
-        let entry = lengths[i] as usize;
-        if entry > left {
-            return false;
-        }
-        left -= entry;
-        i += 1;
+    let mut sum: usize = 0;
+    for length in lengths {
+        sum = sum.checked_add(*length as usize)?;
     }
-    left == 0
+    Some(sum)
 }
 
-// Refusal 12 where it answers no: "lengths not adding up to the bytes".
-fn add_up(lengths: &[u32], total: usize) -> bool
-    ensures { result ≡ eqb (sum lengths.now) total }
+// Writes one data packet at the output's start.
+fn write_packet(payload: &[u8], packet_number: u64, ids: ConnectionIds, out: &mut [u8])
+    requires { (length payload.now < 65536) × (20 + length payload.now ≤ length out.old) }
+    ensures { out.new ≡ paste out.old 0 (packet_bytes (data_packet ids.source ids.destination packet_number payload.now)) (20 + length payload.now) }
 {
-    if lengths.len() < 4294967296 {
-        return sum_of(lengths) == total;
-    }
-    use_up(lengths, total)
-}
-
-// The entries that go with the first q bytes.
-fn removed_with(lengths: &[u32], q: usize) -> Removal
-    ensures { ◌≡◌ {A = ℕ × ℕ} (result.entries, result.cut) (removal q lengths.now) }
-{
-    let mut left = q;
-    let mut i = 0;
-    while left > 0 && i < lengths.len() {
-        let entry = lengths[i] as usize;
-        if entry > left {
-            return Removal {
-                entries: i,
-                cut: left,
-            };
-        }
-        left -= entry;
-        i += 1;
-    }
-    Removal { entries: i, cut: 0 }
-}
-
-// What leaves the queue: below the limit every entry, empty ones too.
-fn removed_up_to(limit: usize, bytes: &[u8], lengths: &[u32]) -> Removal
-    ensures { ◌≡◌ {A = ℕ × ℕ} (result.entries, result.cut) (removed limit (queued bytes.now lengths.now)) }
-{
-    if bytes.len() < limit {
-        return Removal {
-            entries: lengths.len(),
-            cut: 0,
-        };
-    }
-    removed_with(lengths, limit)
-}
-
-// Writes one data packet from `at` on: its payload is the n bytes from `from` on.
-fn write_packet(
-    bytes: &[u8],
-    from: usize,
-    n: usize,
-    packet_number: u64,
-    src_conn_id: u32,
-    dst_conn_id: u32,
-    out: &mut [u8],
-    at: usize,
-)
-    requires { (n < 65536) × (from + n ≤ length bytes.now) × (at + 20 + n ≤ length out.old) }
-    ensures { out.new ≡ paste out.old at (packet_bytes (data_packet src_conn_id dst_conn_id packet_number (take n (drop from bytes.now)))) (20 + n) }
-{
-    let security = BluefinSecurityFields::new(false, 0);
     let header = BluefinHeader::new(
-        src_conn_id,
-        dst_conn_id,
+        ids.source,
+        ids.destination,
         PacketType::UnencryptedData,
-        n as u16,
-        security,
+        payload.len() as u16,
+        BluefinSecurityFields::new(false, 0),
     );
     header
         .with_packet_number(packet_number)
-        .serialise_at_unchecked(out, at);
-    parts::copy_part(bytes, from, n, out, at + 20);
+        .serialise_at_unchecked(out, 0);
+    parts::put(payload, out, HEADER_SIZE);
 }
 
 // Writes all of `taken` as packets, from the output's start.
-fn write_packets(
-    taken: &[u8],
-    next_packet_num: u64,
-    src_conn_id: u32,
-    dst_conn_id: u32,
-    out: &mut [u8],
-)
+fn write_packets(taken: &[u8], next_packet_num: u64, ids: ConnectionIds, out: &mut [u8])
     requires { (next_packet_num + packets_for (length taken.now) ≤ largest) × (packed_size (length taken.now) ≤ length out.old) }
-    ensures { out.new ≡ paste out.old 0 (all_packed src_conn_id dst_conn_id next_packet_num taken.now) (packed_size (length taken.now)) }
+    ensures { out.new ≡ paste out.old 0 (all_packed ids.source ids.destination next_packet_num taken.now) (packed_size (length taken.now)) }
 {
-    let mut from = 0;
-    let mut at = 0;
-    let mut number = next_packet_num;
-    while from < taken.len() {
-        let n = smaller(taken.len() - from, PAYLOAD_SIZE);
-        write_packet(taken, from, n, number, src_conn_id, dst_conn_id, out, at);
-        from += n;
-        at = at + 20 + n;
-        number += 1;
+    for (i, payload) in taken.chunks(PAYLOAD_SIZE).enumerate() {
+        let at = i * PACKET_SIZE;
+        write_packet(payload, next_packet_num + i as u64, ids, &mut out[at..]);
     }
 }
 
-// Packs at most `limit` bytes.
-fn consume_data_up_to(
-    limit: usize,
-    bytes: &[u8],
-    lengths: &[u32],
-    next_packet_num: u64,
-    src_conn_id: u32,
-    dst_conn_id: u32,
-    out: &mut [u8],
-) -> Taken
-    ensures { leaves result out.new ≡ packing limit (queued bytes.now lengths.now) next_packet_num src_conn_id dst_conn_id out.old }
-{
-    if !add_up(lengths, bytes.len()) {
-        return Taken::Refused(Refusal::Malformed);
+impl Queue<'_> {
+    // Refusal 12 where it answers no: "lengths not adding up to the bytes".
+    fn adds_up(&self) -> bool
+        ensures { result ≡ eqb (sum self.now.lengths.now) (length self.now.bytes.now) }
+    {
+        if self.lengths.len() <= u32::MAX as usize {
+            return sum_of(self.lengths) == self.bytes.len();
+        }
+        checked_sum_of(self.lengths) == Some(self.bytes.len())
     }
-    let q = smaller(bytes.len(), limit);
-    let p = (q + (PAYLOAD_SIZE - 1)) / PAYLOAD_SIZE;
-    if p as u64 > LARGEST - next_packet_num {
-        return Taken::Refused(Refusal::Exhausted);
-    }
-    if out.len() < q + 20 * p {
-        return Taken::Refused(Refusal::BufferShort);
-    }
-    write_packets(&bytes[..q], next_packet_num, src_conn_id, dst_conn_id, out);
-    let removal = removed_up_to(limit, bytes, lengths);
-    Taken::Packed(DataPacked {
-        bytes: q,
-        packets: p,
-        next_packet_num: next_packet_num + p as u64,
-        entries_removed: removal.entries,
-        bytes_cut: removal.cut,
-    })
-}
 
-// worker/writer.rs, `WriterHandler::consume_data_into`. The queue is lent as its bytes end to end and the lengths of its entries; what leaves it is answered.
-// The packets made are kept in the store (document 02, §3), and take no more places than it has free.
-pub fn consume_data_into(
-    o: Outstanding,
-    bytes: &[u8],
-    lengths: &[u32],
-    next_packet_num: u64,
-    src_conn_id: u32,
-    dst_conn_id: u32,
-    out: &mut [u8],
-    numbers: &mut [u64],
-    payload_lengths: &mut [u32],
-    packets: &mut [u8],
-) -> DataAnswer
-    ensures { sending_of result out.new o numbers.new payload_lengths.new packets.new
-        ≡ consumes_data (store_of o numbers.old payload_lengths.old packets.old)
-        (queued bytes.now lengths.now) next_packet_num src_conn_id dst_conn_id out.old }
-{
-    if !outstanding::well_formed_below(o, next_packet_num, numbers, payload_lengths, packets) {
-        return DataAnswer::Refused(Refusal::Malformed);
-    }
-    let limit = smaller(BYTE_LIMIT, PAYLOAD_SIZE * (PLACES - o.count));
-    let taken = consume_data_up_to(
-        limit,
-        bytes,
-        lengths,
-        next_packet_num,
-        src_conn_id,
-        dst_conn_id,
-        out,
-    );
-    match taken {
-        Taken::Refused(refusal) => DataAnswer::Refused(refusal),
-        Taken::Packed(packed) => {
-            if o.count == PLACES {
-                return DataAnswer::Refused(Refusal::NoPlace);
+    // The entries that go with the first q bytes.
+    fn removed_with(&self, q: usize) -> Removal
+        ensures { ◌≡◌ {A = ℕ × ℕ} (result.entries, result.cut) (removal q self.now.lengths.now) }
+    {
+        let mut left = q;
+        for (i, length) in self.lengths.iter().enumerate() {
+            let entry = *length as usize;
+            if left == 0 || entry > left {
+                return Removal {
+                    entries: i,
+                    cut: left,
+                };
             }
-            let end = packed.bytes + 20 * packed.packets;
-            let kept = outstanding::keep(
-                o,
-                next_packet_num,
-                packed.bytes,
-                packed.packets,
-                &out[..end],
-                numbers,
-                payload_lengths,
-                packets,
-            );
-            DataAnswer::Packed(packed, kept)
+            left -= entry;
+        }
+        Removal {
+            entries: self.lengths.len(),
+            cut: 0,
         }
     }
+
+    // What leaves the queue: below the limit every entry, empty ones too.
+    fn removed_up_to(&self, limit: usize) -> Removal
+        ensures { ◌≡◌ {A = ℕ × ℕ} (result.entries, result.cut) (removed limit (queue_in self.now)) }
+    {
+        if self.bytes.len() < limit {
+            return Removal {
+                entries: self.lengths.len(),
+                cut: 0,
+            };
+        }
+        self.removed_with(limit)
+    }
+
+    // Packs at most `limit` bytes.
+    fn pack_up_to(
+        &self,
+        limit: usize,
+        next_packet_num: u64,
+        ids: ConnectionIds,
+        out: &mut [u8],
+    ) -> Result<DataPacked, Refusal>
+        ensures { leaves result out.new ≡ packing limit (queue_in self.now) next_packet_num ids.source ids.destination out.old }
+    {
+        if !self.adds_up() {
+            return Err(Refusal::Malformed);
+        }
+        let q = self.bytes.len().min(limit);
+        let p = q.div_ceil(PAYLOAD_SIZE);
+        let next = next_packet_num
+            .checked_add(p as u64)
+            .ok_or(Refusal::Exhausted)?;
+        if out.len() < q + HEADER_SIZE * p {
+            return Err(Refusal::BufferShort);
+        }
+        write_packets(&self.bytes[..q], next_packet_num, ids, out);
+        let removal = self.removed_up_to(limit);
+        Ok(DataPacked {
+            bytes: q,
+            packets: p,
+            next_packet_num: next,
+            entries_removed: removal.entries,
+            bytes_cut: removal.cut,
+        })
+    }
+}
+
+// worker/writer.rs, `WriterHandler::consume_data_into`. What leaves the queue is answered.
+// The packets made are kept in the store (document 02, §3), and take no more places than it has free.
+pub fn consume_data_into(
+    store: &mut StoreViewMut,
+    queue: &Queue,
+    next_packet_num: u64,
+    ids: ConnectionIds,
+    out: &mut [u8],
+) -> Result<DataPacked, Refusal>
+    ensures lent { SameLent store.old store.new }
+    ensures sent { sending_of result out.new (store_now store.new)
+        ≡ consumes_data (store_now store.old) (queue_in queue.now) next_packet_num ids.source ids.destination out.old }
+{
+    if !store.view().well_formed_below(next_packet_num) {
+        return Err(Refusal::Malformed);
+    }
+    let free = PLACES - store.state.count;
+    let limit = BYTE_LIMIT.min(PAYLOAD_SIZE * free);
+    let packed = queue.pack_up_to(limit, next_packet_num, ids, out)?;
+    if free == 0 {
+        return Err(Refusal::NoPlace);
+    }
+    let end = packed.bytes + HEADER_SIZE * packed.packets;
+    store.keep(next_packet_num, packed.bytes, packed.packets, &out[..end]);
+    Ok(packed)
 }
 
 // An empty data packet (document 02, §5), which the Rust does not make: a header alone, written from the output's start and kept in the store like a packet of data.
-// To stand last in a datagram it is given the output behind what was packed.
+// To stand last in a datagram it is given the output behind what was packed. Answers the next number.
 pub fn pack_empty_into(
-    o: Outstanding,
+    store: &mut StoreViewMut,
     next_packet_num: u64,
-    src_conn_id: u32,
-    dst_conn_id: u32,
+    ids: ConnectionIds,
     out: &mut [u8],
-    numbers: &mut [u64],
-    payload_lengths: &mut [u32],
-    packets: &mut [u8],
-) -> EmptyAnswer
-    ensures { sending_empty_of result out.new o numbers.new payload_lengths.new packets.new
-        ≡ packs_empty (store_of o numbers.old payload_lengths.old packets.old) next_packet_num src_conn_id dst_conn_id out.old }
+) -> Result<u64, Refusal>
+    ensures lent { SameLent store.old store.new }
+    ensures sent { sending_empty_of result out.new (store_now store.new)
+        ≡ packs_empty (store_now store.old) next_packet_num ids.source ids.destination out.old }
 {
-    if !outstanding::well_formed_below(o, next_packet_num, numbers, payload_lengths, packets) {
-        return EmptyAnswer::Refused(Refusal::Malformed);
+    if !store.view().well_formed_below(next_packet_num) {
+        return Err(Refusal::Malformed);
     }
-    if next_packet_num >= LARGEST {
-        return EmptyAnswer::Refused(Refusal::Exhausted);
+    let next = next_packet_num.checked_add(1).ok_or(Refusal::Exhausted)?;
+    if out.len() < HEADER_SIZE {
+        return Err(Refusal::BufferShort);
     }
-    if out.len() < net::BLUEFIN_HEADER_SIZE_BYTES {
-        return EmptyAnswer::Refused(Refusal::BufferShort);
-    }
-    if o.count == PLACES {
-        return EmptyAnswer::Refused(Refusal::NoPlace);
+    if store.state.count == PLACES {
+        return Err(Refusal::NoPlace);
     }
     let header = net::build_empty_encrypted_packet(
-        src_conn_id,
-        dst_conn_id,
+        ids,
         next_packet_num,
         PacketType::UnencryptedData,
     );
     header.serialise_at_unchecked(out, 0);
-    let kept = outstanding::keep(
-        o,
-        next_packet_num,
-        0,
-        1,
-        &out[..net::BLUEFIN_HEADER_SIZE_BYTES],
-        numbers,
-        payload_lengths,
-        packets,
-    );
-    EmptyAnswer::Packed(next_packet_num + 1, kept)
+    store.keep(next_packet_num, 0, 1, &out[..HEADER_SIZE]);
+    Ok(next)
 }
 
-// worker/writer.rs, `WriterHandler::payload_bytes_in_datagram`.
+// worker/writer.rs, `WriterHandler::payload_bytes_in_datagram`. No chain: each header's field says where the next one begins.
 pub fn payload_bytes_in_datagram(datagram: &[u8]) -> usize
     ensures { result ≡ payload_bytes datagram.now }
 {
     let mut total = 0;
     let mut at = 0;
-    while datagram.len() - at >= 20 {
+    while datagram.len() - at >= HEADER_SIZE {
         let field = header::field_at_unchecked(datagram, at) as usize;
-        if datagram.len() - at - 20 < field {
+        if datagram.len() - at - HEADER_SIZE < field {
             return total;
         }
         total += field;
-        at = at + 20 + field;
+        at += HEADER_SIZE + field;
     }
     total
 }
 
 // worker/writer.rs, `reserve_close_packet_num`. The Rust raises a mirror of the counter; here there is one counter, which packing takes its numbers from too.
-pub fn reserve_close_packet_num(next_packet_num: u64) -> ReserveAnswer
-    ensures { reserve_says result ≡ reserving next_packet_num }
+pub fn reserve_close_packet_num(next_packet_num: u64) -> Result<Reservation, Refusal>
+    ensures { says (λ v. (v.number, v.next_packet_num)) result ≡ reserving next_packet_num }
 {
-    if next_packet_num >= LARGEST {
-        return ReserveAnswer::Refused(Refusal::Exhausted);
-    }
-    ReserveAnswer::Reserved(Reservation {
+    let next = next_packet_num.checked_add(1).ok_or(Refusal::Exhausted)?;
+    Ok(Reservation {
         number: next_packet_num,
-        next_packet_num: next_packet_num + 1,
+        next_packet_num: next,
     })
 }
