@@ -11,6 +11,7 @@ use Rattle.ordered_bytes.specs.Calls.{accepting}
 use Rattle.window.specs.Window.{insert_range}
 use Rattle.window.specs.Window as window
 use Rattle.window.specs.declared.SlidingWindow.{SlidingWindow}
+use Rattle.window.specs.declared.WindowViewMut.{WindowViewMut}
 
 -- ---- the call for one packet
 
@@ -25,6 +26,9 @@ pub record Acks : Type 0 where
 
 abbrev pub acks_of : SlidingWindow → List ℕ → Acks
 acks_of w cells = record { window = w; cells = cells }
+
+abbrev pub acks_in : WindowViewMut → Acks
+acks_in v = acks_of v.state v.cells.now
 
 -- `insert_range`: base and count are the packet's number and field
 abbrev pub enters : Acks → Packet → Said Unit × Acks

@@ -1,88 +1,63 @@
-// The acks of a datagram, entered into the window one after another. The caller has tested the window; each ack keeps it well formed.
-// Proved: window, cells and answers are those of the entries of specs/Datagram.antt in order.
-ghost use Rattle.std.specs.Prelude.{◌≡◌, ◌+◌, ◌<◌, ◌≤◌, length};
-ghost use Rattle.refusal.specs.Said.{refusal_in};
-ghost use Rattle.packet.specs.Datagram.{packet_at, Listed};
-ghost use Rattle.window.specs.Window.{range_inserted_says, window_after_range};
-ghost use Rattle.receive.specs.Datagram.{acks_of, enters, progress, takes, takes_listed, WellAcks, Leaves};
+// The acks of a datagram, entered as `insert_range` enters them.
+// Proved: window, cells and answer are those of the entries of specs/Datagram.antt.
+// The trait's clauses stand here again: the check cannot give them to the methods of a block with a lifetime yet.
+#![tactic(auto)]
 
+ghost use Rattle.std.specs.Prelude.{◌≡◌, ◌+◌, ◌≤◌, true, length};
+ghost use Rattle.std.proofs.Common.{rules};
+ghost use Rattle.refusal.specs.Said.{says};
+ghost use Rattle.packet.specs.Datagram.{packet_at};
+ghost use Rattle.window.specs.Window.{well_formed};
+ghost use Rattle.window.specs.View.{SameLent};
+ghost use Rattle.receive.specs.Datagram.{Acks, acks_in, enters};
+
+use crate::receiver::Receiver;
 use refusal::Refusal;
-use window::{RangeInserted, SlidingWindow};
+use window::WindowViewMut;
 
 // The type of an ack.
 const ACK: u8 = 4;
 
-// The window to go on with, and 0 or the refusal's number.
-#[derive(Clone, Copy)]
-struct Entered {
-    window: SlidingWindow,
-    refusal: u8,
-}
+impl Receiver for WindowViewMut<'_> {
+    ghost kind = { 4 };
 
-// The first n packets of the index.
-pub fn enter_all(
-    w: SlidingWindow,
-    cells: &mut [u64],
-    datagram: &[u8],
-    index: &[u32],
-    n: usize,
-    answers: &mut [u8],
-) -> SlidingWindow
-    requires { WellAcks (acks_of w cells.old) × Listed datagram.now index.now n × (n ≤ length answers.old) }
-    ensures { progress (acks_of result cells.new) answers.new
-        ≡ takes_listed 4 enters datagram.now index.now n (progress (acks_of w cells.old) answers.old) }
-{
-    let mut i = 0;
-    let mut entered = w;
-    while i < n {
-        let cell = 2 * i;
-        let at = index[cell] as usize;
-        entered = enter_listed(entered, cells, datagram, at, i, answers);
-        i += 1;
-    }
-    entered
-}
+    ghost State = { Acks };
 
-// The i-th packet, if it is an ack: no payload is read.
-fn enter_listed(
-    w: SlidingWindow,
-    cells: &mut [u64],
-    datagram: &[u8],
-    at: usize,
-    i: usize,
-    answers: &mut [u8],
-) -> SlidingWindow
-    requires { WellAcks (acks_of w cells.old) × (at + 20 ≤ length datagram.now) × (i < length answers.old) }
-    ensures { Leaves WellAcks
-        (takes 4 enters i (packet_at datagram.now (at, 0)) (progress (acks_of w cells.old) answers.old))
-        (progress (acks_of result cells.new) answers.new) }
-{
-    if header::type_at_unchecked(datagram, at) != ACK {
-        return w;
-    }
-    let base = header::number_at_unchecked(datagram, at);
-    let count = header::field_at_unchecked(datagram, at);
-    let inserted = window::insert_range_unchecked(w, cells, base, count);
-    let entered = entered_by(w, inserted);
-    answers[i] = entered.refusal;
-    entered.window
-}
+    ghost state = { acks_in };
 
-fn entered_by(w: SlidingWindow, inserted: RangeInserted) -> Entered
-    ensures { (result.refusal ≡ refusal_in (range_inserted_says inserted)) × (result.window ≡ window_after_range w inserted) }
-{
-    match inserted {
-        RangeInserted::Stored(v) => Entered {
-            window: v,
-            refusal: 0,
-        },
-        RangeInserted::AlreadyHeld(v) => Entered {
-            window: v,
-            refusal: refusal::number(Refusal::AlreadyHeld),
-        },
-        RangeInserted::Refused(r) => Entered {
-            window: w,
-            refusal: refusal::number(r),
-        },
+    ghost well = { λ a. well_formed a.window a.cells };
+
+    ghost call = { enters };
+
+    ghost Kept = { SameLent };
+
+    fn packet_type() -> u8
+        ensures { result ≡ 4 }
+    {
+        ACK
     }
+
+    fn well_formed(&self) -> bool
+        ensures { result ≡ well_formed self.now.state self.now.cells.now }
+    {
+        self.well_formed()
+    }
+
+    // No payload is read.
+    fn take_unchecked(&mut self, datagram: &[u8], at: usize, len: usize) -> Result<(), Refusal>
+        requires { (well_formed self.old.state self.old.cells.now ≡ true) × (at + 20 + len ≤ length datagram.now) }
+        ensures kept { SameLent self.old self.new }
+        ensures well { well_formed self.new.state self.new.cells.now ≡ true }
+        ensures value { (says (λ x. x) result, acks_in self.new) ≡ enters (acks_in self.old) (packet_at datagram.now (at, len)) }
+    {
+        let base = header::number_at_unchecked(datagram, at);
+        let count = header::field_at_unchecked(datagram, at);
+        self.insert_range_unchecked(base, count)
+    }
+
+    ghost early = { Prim.search rules };
+
+    ghost kept_none = { Prim.search rules };
+
+    ghost kept_both = { Prim.search rules };
 }

@@ -4,109 +4,59 @@
 #![tactic(auto)]
 
 ghost use Rattle.std.specs.Prelude.{◌≡◌};
-ghost use Rattle.packet.specs.Datagram.{parsed_says};
-ghost use Rattle.ordered_bytes.specs.Buffer.{buffer_of};
-ghost use Rattle.receive.specs.Datagram.{acks_of, receiving, receiving_acks};
+ghost use Rattle.refusal.specs.Said.{read_says};
+ghost use Rattle.ordered_bytes.specs.Buffer.{buffer_now, SameLent};
+ghost use Rattle.window.specs.View.{SameLent as SameCells};
+ghost use Rattle.receive.specs.Datagram.{acks_in, receiving, receiving_acks};
 
-use ordered_bytes::{OrderedBytes, SlotLength};
-use packet::{Indexed, Parsed};
-use refusal::Refusal;
-use window::SlidingWindow;
+use ordered_bytes::BufferViewMut;
+use packet::Indexed;
+use window::WindowViewMut;
 
 mod acks;
 mod data;
-
-// The window to go on with, what `from_bytes_into` answers, and how many packets stand in the index, refused or not.
-#[derive(Clone, Copy)]
-pub struct AcksReceived {
-    pub window: SlidingWindow,
-    pub answer: Parsed,
-    pub cells: usize,
-}
+mod receiver;
 
 // Each data packet listed is accepted as `buffer_in_packet` accepts it. An answer of 5 means: ack its number, count 1 (document 02, §3). The number is read off the header at the index.
+#[tactic(auto, unfolding(crate::specs::Datagram::receiving))]
 pub fn receive(
-    o: OrderedBytes,
+    buffer: &mut BufferViewMut<'_>,
     datagram: &[u8],
     index: &mut [u32],
     answers: &mut [u8],
-    marks: &mut [bool],
-    lengths: &mut [SlotLength],
-    store: &mut [u8],
 ) -> Indexed
-    ensures { record {
-      said = parsed_says result.answer;
+    ensures lent { SameLent buffer.old buffer.new }
+    ensures state { buffer.new.state ≡ buffer.old.state }
+    ensures value { record {
+      said = read_says (λ n. n) result.answer;
       cells = result.cells;
       index = index.new;
       answers = answers.new;
-      state = buffer_of o marks.new lengths.new store.new;
+      state = buffer_now buffer.new;
     }
-        ≡ receiving (buffer_of o marks.old lengths.old store.old)
+        ≡ receiving (buffer_now buffer.old)
         datagram.now index.old answers.old }
 {
-    if !ordered_bytes::well_formed(o, marks, lengths, store) {
-        return Indexed {
-            answer: Parsed::Refused(Refusal::Malformed),
-            cells: 0,
-        };
-    }
-    if answers.len() < index.len() / 2 {
-        return Indexed {
-            answer: Parsed::Refused(Refusal::BufferShort),
-            cells: 0,
-        };
-    }
-    let indexed = packet::index_packets(datagram, index);
-    data::accept_all(
-        o,
-        datagram,
-        index,
-        indexed.cells,
-        answers,
-        marks,
-        lengths,
-        store,
-    );
-    indexed
+    receiver::receive_datagram(buffer, datagram, index, answers)
 }
 
 // Each ack listed is entered as `insert_range` enters it: its number is the base, its field the count.
+#[tactic(auto, unfolding(crate::specs::Datagram::receiving_acks))]
 pub fn receive_acks(
-    w: SlidingWindow,
-    cells: &mut [u64],
+    window: &mut WindowViewMut<'_>,
     datagram: &[u8],
     index: &mut [u32],
     answers: &mut [u8],
-) -> AcksReceived
-    ensures { record {
-      said = parsed_says result.answer;
+) -> Indexed
+    ensures lent { SameCells window.old window.new }
+    ensures reception { record {
+      said = read_says (λ n. n) result.answer;
       cells = result.cells;
       index = index.new;
       answers = answers.new;
-      state = acks_of result.window cells.new;
+      state = acks_in window.new;
     }
-        ≡ receiving_acks w cells.old datagram.now index.old answers.old }
+        ≡ receiving_acks window.old.state window.old.cells.now datagram.now index.old answers.old }
 {
-    if !window::well_formed(w, cells) {
-        return AcksReceived {
-            window: w,
-            answer: Parsed::Refused(Refusal::Malformed),
-            cells: 0,
-        };
-    }
-    if answers.len() < index.len() / 2 {
-        return AcksReceived {
-            window: w,
-            answer: Parsed::Refused(Refusal::BufferShort),
-            cells: 0,
-        };
-    }
-    let indexed = packet::index_packets(datagram, index);
-    let entered = acks::enter_all(w, cells, datagram, index, indexed.cells, answers);
-    let answer = indexed.answer;
-    AcksReceived {
-        window: entered,
-        answer: answer,
-        cells: indexed.cells,
-    }
+    receiver::receive_datagram(window, datagram, index, answers)
 }
