@@ -5,13 +5,13 @@ ghost use Rattle.window.specs.Window.{window as window_of, insert_packet_number,
 ghost use Rattle.flat.specs.Acked.{inserted_of, run_of, flat_outcome};
 
 use flat::acked::{Inserted, Run};
-use window::SlidingWindow;
+use window::{SlidingWindow, WindowViewMut};
 
 #[unsafe(no_mangle)]
 pub extern "C" fn bluefin_window_new(smallest_expected: u64) -> SlidingWindow
     ensures { result ≡ window_of smallest_expected 0 }
 {
-    window::new(smallest_expected)
+    SlidingWindow::new(smallest_expected)
 }
 
 #[unsafe(no_mangle)]
@@ -22,7 +22,9 @@ pub extern "C" fn bluefin_window_insert_packet_number(
 ) -> Inserted
     ensures { (result, cells.new) ≡ flat_outcome inserted_of (insert_packet_number w cells.old n) }
 {
-    flat::acked::inserted_of(w, window::insert_packet_number(w, cells, n))
+    let mut window = WindowViewMut { state: w, cells };
+    let answer = window.insert_packet_number(n);
+    Inserted::new(window.state, answer)
 }
 
 #[unsafe(no_mangle)]
@@ -34,7 +36,9 @@ pub extern "C" fn bluefin_window_insert_range(
 ) -> Inserted
     ensures { (result, cells.new) ≡ flat_outcome inserted_of (insert_range w cells.old base count) }
 {
-    flat::acked::range_inserted_of(w, window::insert_range(w, cells, base, count))
+    let mut window = WindowViewMut { state: w, cells };
+    let answer = window.insert_range(base, count);
+    Inserted::new(window.state, answer)
 }
 
 #[unsafe(no_mangle)]
@@ -42,5 +46,7 @@ pub extern "C" fn bluefin_window_consume(w: SlidingWindow, cells: &mut [u64]) ->
     ensures { (result, cells.new)
         ≡ flat_outcome run_of (consuming w cells.old) }
 {
-    flat::acked::run_of(w, window::consume(w, cells))
+    let mut window = WindowViewMut { state: w, cells };
+    let answer = window.consume();
+    Run::new(window.state, answer)
 }

@@ -7,7 +7,7 @@ ghost use Rattle.ordered_bytes.specs.Calls.{creating, starting, accepting, peeki
 ghost use Rattle.flat.specs.Buffer.{started_of, flat_creation, flat_acceptance, flat_consumption, flat_pieces};
 
 use flat::buffer::{Accepted, Consumed, ConsumedBytes, Started};
-use ordered_bytes::{OrderedBytes, SlotLength};
+use ordered_bytes::{BufferView, BufferViewMut, OrderedBytes, SlotLength};
 
 #[unsafe(no_mangle)]
 pub extern "C" fn bluefin_ordered_bytes_new(
@@ -20,13 +20,7 @@ pub extern "C" fn bluefin_ordered_bytes_new(
     ensures { (result, marks.new, lengths.new)
         ≡ flat_creation (creating slot_width start_packet_number marks.old lengths.old store.now) }
 {
-    flat::buffer::created_of(ordered_bytes::new(
-        slot_width,
-        start_packet_number,
-        marks,
-        lengths,
-        store,
-    ))
+    Started::created(OrderedBytes::new(slot_width, start_packet_number, marks, lengths, store))
 }
 
 #[unsafe(no_mangle)]
@@ -39,10 +33,13 @@ pub extern "C" fn bluefin_ordered_bytes_set_start_packet_number(
 ) -> Started
     ensures { result ≡ started_of o (starting (buffer_of o marks.now lengths.now store.now) start_packet_number) }
 {
-    flat::buffer::started_of(
-        o,
-        ordered_bytes::set_start_packet_number(o, start_packet_number, marks, lengths, store),
-    )
+    let buffer = BufferView {
+        state: o,
+        marks,
+        lengths,
+        store,
+    };
+    Started::new(o, buffer.set_start_packet_number(start_packet_number))
 }
 
 #[unsafe(no_mangle)]
@@ -57,7 +54,13 @@ pub extern "C" fn bluefin_ordered_bytes_buffer_in_packet(
     ensures { (result, buffer_of o marks.new lengths.new store.new)
         ≡ flat_acceptance (accepting (buffer_of o marks.old lengths.old store.old) n payload.now) }
 {
-    flat::buffer::accepted_of(ordered_bytes::buffer_in_packet(o, n, payload, marks, lengths, store))
+    let mut buffer = BufferViewMut {
+        state: o,
+        marks,
+        lengths,
+        store,
+    };
+    buffer.buffer_in_packet(n, payload).into()
 }
 
 #[unsafe(no_mangle)]
@@ -69,7 +72,13 @@ pub extern "C" fn bluefin_ordered_bytes_peek(
 ) -> u8
     ensures { result ≡ refusal_in (peeking (buffer_of o marks.now lengths.now store.now)) }
 {
-    flat::buffer::peeked_of(ordered_bytes::peek(o, marks, lengths, store))
+    let buffer = BufferView {
+        state: o,
+        marks,
+        lengths,
+        store,
+    };
+    flat::buffer::peeked_of(buffer.peek())
 }
 
 #[unsafe(no_mangle)]
@@ -84,7 +93,14 @@ pub extern "C" fn bluefin_ordered_bytes_consume(
     ensures { (result, buffer_of result.state marks.new lengths.new store.new, buf.new)
         ≡ flat_consumption (consuming (buffer_of o marks.old lengths.old store.old) len buf.old) }
 {
-    flat::buffer::consumed_of(ordered_bytes::consume(o, len, buf, marks, lengths, store))
+    let mut buffer = BufferViewMut {
+        state: o,
+        marks,
+        lengths,
+        store,
+    };
+    let answer = buffer.consume(len, buf);
+    Consumed::new(buffer.state, answer)
 }
 
 #[unsafe(no_mangle)]
@@ -100,7 +116,12 @@ pub extern "C" fn bluefin_ordered_bytes_consume_bytes(
     ensures { (result, buffer_of result.state marks.new lengths.new store.new, buf.new, list.new)
         ≡ flat_pieces (consuming_bytes (buffer_of o marks.old lengths.old store.old) limit buf.old list.old) }
 {
-    flat::buffer::consumed_bytes_of(ordered_bytes::consume_bytes(
-        o, limit, buf, list, marks, lengths, store,
-    ))
+    let mut buffer = BufferViewMut {
+        state: o,
+        marks,
+        lengths,
+        store,
+    };
+    let answer = buffer.consume_bytes(limit, buf, list);
+    ConsumedBytes::new(buffer.state, answer)
 }

@@ -7,8 +7,8 @@ ghost use Rattle.flat.specs.Datagrams.{flat_reception, flat_acks_reception};
 
 use flat::datagrams::AcksReceived;
 use flat::packets::Parsed;
-use ordered_bytes::{OrderedBytes, SlotLength};
-use window::SlidingWindow;
+use ordered_bytes::{BufferViewMut, OrderedBytes, SlotLength};
+use window::{SlidingWindow, WindowViewMut};
 
 #[unsafe(no_mangle)]
 pub extern "C" fn bluefin_receive(
@@ -23,7 +23,13 @@ pub extern "C" fn bluefin_receive(
     ensures { (result, index.new, answers.new, buffer_of o marks.new lengths.new store.new)
         ≡ flat_reception (receiving (buffer_of o marks.old lengths.old store.old) datagram.now index.old answers.old) }
 {
-    flat::packets::indexed_of(receive::receive(o, datagram, index, answers, marks, lengths, store))
+    let mut buffer = BufferViewMut {
+        state: o,
+        marks,
+        lengths,
+        store,
+    };
+    receive::receive(&mut buffer, datagram, index, answers).into()
 }
 
 #[unsafe(no_mangle)]
@@ -37,5 +43,7 @@ pub extern "C" fn bluefin_receive_acks(
     ensures { (result, cells.new, index.new, answers.new)
         ≡ flat_acks_reception (receiving_acks w cells.old datagram.now index.old answers.old) }
 {
-    flat::datagrams::acks_received_of(receive::receive_acks(w, cells, datagram, index, answers))
+    let mut window = WindowViewMut { state: w, cells };
+    let received = receive::receive_acks(&mut window, datagram, index, answers);
+    AcksReceived::new(window.state, received)
 }

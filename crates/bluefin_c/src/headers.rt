@@ -6,23 +6,22 @@ ghost use Rattle.flat.specs.Answers.{first_by};
 ghost use Rattle.flat.specs.Headers.{header_in, unless_unknown, written_of, header_read_of};
 
 use flat::headers::{Header, HeaderRead, Written};
-use header::{BluefinHeader, HeaderWritten};
-use refusal::Refusal;
+use header::BluefinHeader;
 
 #[unsafe(no_mangle)]
 pub extern "C" fn bluefin_header_serialise_into(header: Header, buf: &mut [u8]) -> Written
     ensures { (result, buf.new)
         ≡ first_by written_of (unless_unknown header buf.old (serialises_into (header_in header) buf.old)) }
 {
-    if header.type_field >= 7 {
-        return flat::headers::written_of(HeaderWritten::Refused(Refusal::UnknownType));
+    match BluefinHeader::try_from(header) {
+        Ok(header) => header.serialise_into(buf).into(),
+        Err(refusal) => Written::from(Err(refusal)),
     }
-    flat::headers::written_of(flat::headers::header_in(header).serialise_into(buf))
 }
 
 #[unsafe(no_mangle)]
 pub extern "C" fn bluefin_header_deserialise(bytes: &[u8]) -> HeaderRead
     ensures { result ≡ header_read_of (deserialises bytes.now) }
 {
-    flat::headers::header_read_of(BluefinHeader::deserialise(bytes))
+    BluefinHeader::deserialise(bytes).into()
 }

@@ -12,12 +12,12 @@ use flat::headers::Header;
 pub extern "C" fn bluefin_is_hello_packet(host: u8, header: Header) -> bool
     ensures { result ≡ is_hello (host_in host) (header_in header) }
 {
-    net::is_hello_packet(flat::hello::host_in(host), flat::headers::header_in(header))
+    net::is_hello_packet(flat::hello::host_in(host), header.to_header())
 }
 
 #[unsafe(no_mangle)]
 pub extern "C" fn bluefin_is_client_ack_packet(host: u8, header: Header) -> bool
     ensures { result ≡ is_client_ack (host_in host) (header_in header) }
 {
-    net::is_client_ack_packet(flat::hello::host_in(host), flat::headers::header_in(header))
+    net::is_client_ack_packet(flat::hello::host_in(host), header.to_header())
 }

@@ -6,13 +6,13 @@ ghost use Rattle.flat.specs.Answers.{first_by};
 ghost use Rattle.flat.specs.Kept.{listed_of, flat_dropping};
 
 use flat::kept::{Dropped, Listed};
-use outstanding::Outstanding;
+use outstanding::{Outstanding, StoreView, StoreViewMut};
 
 #[unsafe(no_mangle)]
 pub extern "C" fn bluefin_outstanding_new() -> Outstanding
     ensures { result ≡ fresh }
 {
-    outstanding::new()
+    Outstanding::new()
 }
 
 #[unsafe(no_mangle)]
@@ -26,7 +26,13 @@ pub extern "C" fn bluefin_outstanding_list_into(
     ensures { (result, out.new)
         ≡ first_by listed_of (listing (store_of o numbers.now lengths.now packets.now) out.old) }
 {
-    flat::kept::list_into(o, out, numbers, lengths, packets)
+    let store = StoreView {
+        state: o,
+        numbers,
+        lengths,
+        packets,
+    };
+    flat::kept::list_into(&store, out)
 }
 
 #[unsafe(no_mangle)]
@@ -40,5 +46,11 @@ pub extern "C" fn bluefin_outstanding_drop_answered(
     ensures { (result, store_of result.outstanding numbers.new lengths.new packets.new)
         ≡ flat_dropping (answering (store_of o numbers.old lengths.old packets.old) last) }
 {
-    flat::kept::drop_answered(o, last, numbers, lengths, packets)
+    let mut store = StoreViewMut {
+        state: o,
+        numbers,
+        lengths,
+        packets,
+    };
+    flat::kept::drop_answered(&mut store, last)
 }

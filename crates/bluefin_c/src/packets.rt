@@ -9,8 +9,7 @@ ghost use Rattle.flat.specs.Packets.{parsed_of, flat_index};
 
 use flat::headers::{Header, HeaderRead, Written};
 use flat::packets::Parsed;
-use header::HeaderWritten;
-use refusal::Refusal;
+use header::BluefinHeader;
 
 #[unsafe(no_mangle)]
 pub extern "C" fn bluefin_packet_serialise_into(
@@ -21,33 +20,29 @@ pub extern "C" fn bluefin_packet_serialise_into(
     ensures { (result, buf.new)
         ≡ first_by written_of (unless_unknown header buf.old (serialises_into (record { header = header_in header; payload = payload.now }) buf.old)) }
 {
-    if header.type_field >= 7 {
-        return flat::headers::written_of(HeaderWritten::Refused(Refusal::UnknownType));
+    match BluefinHeader::try_from(header) {
+        Ok(header) => packet::serialise_into(header, payload, buf).into(),
+        Err(refusal) => Written::from(Err(refusal)),
     }
-    flat::packets::packet_written_of(packet::serialise_into(
-        flat::headers::header_in(header),
-        payload,
-        buf,
-    ))
 }
 
 #[unsafe(no_mangle)]
 pub extern "C" fn bluefin_packet_deserialise(bytes: &[u8]) -> HeaderRead
     ensures { result ≡ header_read_of (deserialises bytes.now) }
 {
-    flat::headers::header_read_of(packet::deserialise(bytes))
+    packet::deserialise(bytes).into()
 }
 
 #[unsafe(no_mangle)]
 pub extern "C" fn bluefin_from_bytes(datagram: &[u8], index: &mut [u32]) -> Parsed
     ensures { (result, index.new) ≡ first_by parsed_of (parses datagram.now index.old) }
 {
-    flat::packets::parsed_of(packet::from_bytes(datagram, index))
+    packet::from_bytes(datagram, index).into()
 }
 
 #[unsafe(no_mangle)]
 pub extern "C" fn bluefin_from_bytes_into(datagram: &[u8], index: &mut [u32]) -> Parsed
     ensures { (result, index.new) ≡ flat_index (indexes datagram.now index.old) }
 {
-    flat::packets::indexed_of(packet::index_packets(datagram, index))
+    packet::index_packets(datagram, index).into()
 }

@@ -13,7 +13,9 @@ ghost use Rattle.flat.specs.Sending.{flat_sending, reserved_of};
 
 use flat::headers::Written;
 use flat::sending::{DataPacked, Reserved};
-use outstanding::Outstanding;
+use net::ConnectionIds;
+use outstanding::{Outstanding, StoreViewMut};
+use writer::Queue;
 
 #[unsafe(no_mangle)]
 pub extern "C" fn bluefin_consume_data_into(
@@ -32,18 +34,18 @@ pub extern "C" fn bluefin_consume_data_into(
         ≡ flat_sending (consumes_data (store_of o numbers.old payload_lengths.old packets.old)
         (queued bytes.now lengths.now) next_packet_num src_conn_id dst_conn_id out.old) }
 {
-    flat::sending::consume_data_into(
-        o,
-        bytes,
-        lengths,
-        next_packet_num,
-        src_conn_id,
-        dst_conn_id,
-        out,
+    let mut store = StoreViewMut {
+        state: o,
         numbers,
-        payload_lengths,
+        lengths: payload_lengths,
         packets,
-    )
+    };
+    let queue = Queue { bytes, lengths };
+    let ids = ConnectionIds {
+        source: src_conn_id,
+        destination: dst_conn_id,
+    };
+    flat::sending::consume_data_into(&mut store, &queue, next_packet_num, ids, out)
 }
 
 #[unsafe(no_mangle)]
@@ -57,7 +59,7 @@ pub extern "C" fn bluefin_payload_bytes_in_datagram(datagram: &[u8]) -> usize
 pub extern "C" fn bluefin_reserve_close_packet_num(next_packet_num: u64) -> Reserved
     ensures { result ≡ reserved_of (reserving next_packet_num) }
 {
-    flat::sending::reserved_of(writer::reserve_close_packet_num(next_packet_num))
+    writer::reserve_close_packet_num(next_packet_num).into()
 }
 
 #[unsafe(no_mangle)]
@@ -69,7 +71,11 @@ pub extern "C" fn bluefin_write_fin(
 ) -> Written
     ensures { (result, buf.new) ≡ first_by written_of (writes_fin src_conn_id dst_conn_id packet_number buf.old) }
 {
-    flat::headers::written_of(net::write_fin(src_conn_id, dst_conn_id, packet_number, buf))
+    let ids = ConnectionIds {
+        source: src_conn_id,
+        destination: dst_conn_id,
+    };
+    net::write_fin(ids, packet_number, buf).into()
 }
 
 #[unsafe(no_mangle)]
@@ -82,5 +88,9 @@ pub extern "C" fn bluefin_write_fin_ack(
     ensures { (result, buf.new)
         ≡ first_by written_of (writes_fin_ack src_conn_id dst_conn_id packet_number buf.old) }
 {
-    flat::headers::written_of(net::write_fin_ack(src_conn_id, dst_conn_id, packet_number, buf))
+    let ids = ConnectionIds {
+        source: src_conn_id,
+        destination: dst_conn_id,
+    };
+    net::write_fin_ack(ids, packet_number, buf).into()
 }

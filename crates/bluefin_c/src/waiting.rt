@@ -11,19 +11,21 @@ use rtt::RttEstimator;
 pub extern "C" fn bluefin_rtt_new() -> RttEstimator
     ensures { result ≡ fresh }
 {
-    rtt::new()
+    RttEstimator::new()
 }
 
 #[unsafe(no_mangle)]
 pub extern "C" fn bluefin_rtt_sample(t: RttEstimator, micros: u64) -> Sampled
     ensures { result ≡ sampled_of (sampling t micros) }
 {
-    flat::waiting::sampled_of(t, rtt::sample(t, micros))
+    let mut estimator = t;
+    let answer = estimator.sample(micros);
+    Sampled::new(estimator, answer)
 }
 
 #[unsafe(no_mangle)]
 pub extern "C" fn bluefin_rtt_wait_time(t: RttEstimator) -> Wait
     ensures { result ≡ wait_of (waiting t) }
 {
-    flat::waiting::wait_of(rtt::wait_time(t))
+    t.wait_time().into()
 }

@@ -1,31 +1,20 @@
 -- The close record as a host has it: the state's number and its FIN's, and for each FIN that may be absent a flag beside its number.
-use Rattle.std.specs.Prelude.{ℕ, Bool, true, false, cond, [], ◌∷◌, eqb, leb}
-use Rattle.std.proofs.Math.Option.{Option, none, some}
+use Rattle.std.specs.Prelude.{ℕ, Bool, false, cond, [], ◌∷◌, eqb, leb, Option, Some, None, is_some, unwrap_or}
 use Rattle.refusal.specs.Said.{checks}
 use Rattle.close_handler.specs.Close.{state_says, owed, recorded, taken}
 use Rattle.close_handler.specs.declared.CloseBuffer.{CloseBuffer}
 use Rattle.close_handler.specs.declared.CloseState.{CloseState}
 use Rattle.close_handler.specs.declared.CloseState.TheVariants.{Active, PeerFinReceived, LocalFinSent, Closed}
-use Rattle.close_handler.specs.declared.FinNumber.{FinNumber}
-use Rattle.close_handler.specs.declared.FinNumber.TheVariants.{Nothing, Number}
 use Rattle.flat.specs.declared.closing.CloseRecord.{CloseRecord}
 use Rattle.flat.specs.declared.closing.CloseAfter.{CloseAfter}
 use Rattle.flat.specs.declared.closing.FinAckTaken.{FinAckTaken}
-
-abbrev pub is_some : Option ℕ → Bool
-is_some none = false
-is_some (some n) = true
-
-abbrev pub number_or0 : Option ℕ → ℕ
-number_or0 none = 0
-number_or0 (some n) = n
 
 -- the state's number, and its FIN's, or 0 where it has none
 abbrev pub state_number : CloseState → ℕ
 state_number s = (state_says s).0
 
 abbrev pub fin_of_state : CloseState → ℕ
-fin_of_state s = number_or0 (state_says s).1
+fin_of_state s = unwrap_or (state_says s).1 0
 
 -- the state that has the number k, with the FIN n; no call asks for another number's
 abbrev pub state_in : ℕ → ℕ → CloseState
@@ -34,8 +23,8 @@ state_in k n =
     (cond (eqb k (state_number (PeerFinReceived n))) (PeerFinReceived n)
     (cond (eqb k (state_number (LocalFinSent n))) (LocalFinSent n) Closed))
 
-abbrev pub fin_number_in : Bool → ℕ → FinNumber
-fin_number_in is_there n = cond is_there (Number n) Nothing
+abbrev pub fin_number_in : Bool → ℕ → Option ℕ
+fin_number_in is_there n = cond is_there (Some n) None
 
 -- the record that the numbers mean
 abbrev pub close_in : CloseRecord → CloseBuffer
@@ -49,8 +38,8 @@ close_in c = record {
 abbrev pub flat_close : CloseBuffer → CloseRecord
 flat_close b = record {
   state_fin = fin_of_state b.state;
-  pending_fin_ack_send = number_or0 (owed b);
-  received_fin_ack_for = number_or0 (recorded b);
+  pending_fin_ack_send = unwrap_or (owed b) 0;
+  received_fin_ack_for = unwrap_or (recorded b) 0;
   state = state_number b.state;
   is_pending = is_some (owed b);
   is_received = is_some (recorded b);
@@ -71,7 +60,7 @@ fin_ack_taken c =
     (λ n. record { close = c; number = 0; was_pending = false; refusal = n })
     (record {
       close = flat_close (taken (close_in c)).1;
-      number = number_or0 (taken (close_in c)).0;
+      number = unwrap_or (taken (close_in c)).0 0;
       was_pending = is_some (taken (close_in c)).0;
       refusal = 0;
     })

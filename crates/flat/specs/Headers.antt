@@ -1,6 +1,6 @@
 -- Headers as a host has them: every field a number, the type too.
 use Rattle.std.specs.Prelude.{ℕ, false, not, [], ◌∷◌}
-use Rattle.refusal.specs.Said.{Said, refuses, refusal_in, checks}
+use Rattle.refusal.specs.Said.{Said, answers, refuses, refusal_in, checks}
 use Rattle.header.specs.Types.{type_number, type_of, row_of}
 use Rattle.header.specs.declared.BluefinHeader.{BluefinHeader}
 use Rattle.flat.specs.declared.headers.Header.{Header}
@@ -48,6 +48,10 @@ no_header = record {
 -- Writing a header of a type that document 01's table does not know: 4, before the checks of its fields and of the room.
 abbrev pub unless_unknown : {A L : Type 0} → Header → L → Said A × L → Said A × L
 unless_unknown h left = checks ((not (row_of h.type_field).known, 4) ∷ []) (λ n. (refuses n, left))
+
+-- the header that the numbers mean, where its type is known
+abbrev pub header_known : Header → Said BluefinHeader
+header_known h = checks ((not (row_of h.type_field).known, 4) ∷ []) refuses (answers (header_in h))
 
 abbrev pub written_of : Said ℕ → Written
 written_of s = record { bytes = value_or 0 (λ n. n) s; refusal = refusal_in s }

@@ -1,15 +1,15 @@
 // The answers of crates/ordered_bytes as hosts have them: the state to go on with stands in each that may change it, refused or not.
 // Proved: each conversion is that of specs/Buffer.antt.
 ghost use Rattle.std.specs.Prelude.{◌≡◌};
-ghost use Rattle.refusal.specs.Said.{refusal_in};
-ghost use Rattle.ordered_bytes.specs.Calls.{created_says, started_says, accepted_says, accepted_ack, peeked_says, consumed_says, consumed_bytes_says};
+ghost use Rattle.refusal.specs.Said.{says, refusal_in};
+ghost use Rattle.ordered_bytes.specs.Calls.{accepted_says, accepted_ack, consumed_says, consumed_bytes_says};
 ghost use Rattle.flat.specs.Buffer.{no_buffer, started_of, accepted_of, consumed_of, consumed_bytes_of};
 
-use ordered_bytes::{ConsumeAnswer, ConsumeBytesAnswer, Created, OrderedBytes, Peeked};
+use ordered_bytes::{AcceptError, ConsumeResult, OrderedBytes};
 use refusal::Refusal;
 
 #[repr(C)]
-#[derive(Clone, Copy)]
+#[derive(Clone, Copy, Debug, PartialEq, Eq)]
 pub struct Started {
     pub state: OrderedBytes,
     pub refusal: u8,
@@ -17,7 +17,7 @@ pub struct Started {
 
 // The ack is refusal 5's: its base and its count are 0 with every other answer.
 #[repr(C)]
-#[derive(Clone, Copy)]
+#[derive(Clone, Copy, Debug, PartialEq, Eq)]
 pub struct Accepted {
     pub ack_base: u64,
     pub ack_count: usize,
@@ -25,7 +25,7 @@ pub struct Accepted {
 }
 
 #[repr(C)]
-#[derive(Clone, Copy)]
+#[derive(Clone, Copy, Debug, PartialEq, Eq)]
 pub struct Consumed {
     pub state: OrderedBytes,
     pub num_packets_consumed: usize,
@@ -35,7 +35,7 @@ pub struct Consumed {
 }
 
 #[repr(C)]
-#[derive(Clone, Copy)]
+#[derive(Clone, Copy, Debug, PartialEq, Eq)]
 pub struct ConsumedBytes {
     pub state: OrderedBytes,
     pub num_packets_consumed: usize,
@@ -45,122 +45,111 @@ pub struct ConsumedBytes {
     pub refusal: u8,
 }
 
-fn no_buffer() -> OrderedBytes
-    ensures { result ≡ no_buffer }
-{
-    OrderedBytes {
-        slot_width: 0,
-        front_slot: 0,
-        front_number: 0,
-        carry_len: 0,
+// All 0: there is no buffer to go on with.
+const NO_BUFFER: OrderedBytes = OrderedBytes {
+    slot_width: 0,
+    front_slot: 0,
+    front_number: 0,
+    carry_len: 0,
+};
+
+impl Started {
+    // Of a call that makes a buffer, or none.
+    pub fn created(answer: Result<OrderedBytes, Refusal>) -> Self
+        ensures { result ≡ started_of no_buffer (says (λ o. o) answer) }
+    {
+        Self::new(NO_BUFFER, answer)
+    }
+
+    // `before` is the state to go on with where the call refuses.
+    pub fn new(before: OrderedBytes, answer: Result<OrderedBytes, Refusal>) -> Self
+        ensures { result ≡ started_of before (says (λ o. o) answer) }
+    {
+        match answer {
+            Ok(state) => Self { state, refusal: 0 },
+            Err(refusal) => Self {
+                state: before,
+                refusal: refusal.number(),
+            },
+        }
     }
 }
 
-pub fn created_of(answer: Created) -> Started
-    ensures { result ≡ started_of no_buffer (created_says answer) }
-{
-    match answer {
-        Created::Buffer(o) => Started {
-            state: o,
-            refusal: 0,
-        },
-        Created::Refused(r) => Started {
-            state: no_buffer(),
-            refusal: refusal::number(r),
-        },
+impl From<Result<(), AcceptError>> for Accepted {
+    ghost from_gives = { λ answer accepted. accepted ≡ accepted_of (accepted_says answer) (accepted_ack answer) };
+
+    fn from(answer: Result<(), AcceptError>) -> Self {
+        match answer {
+            Ok(()) => Self {
+                ack_base: 0,
+                ack_count: 0,
+                refusal: 0,
+            },
+            Err(AcceptError::Below(ack)) => Self {
+                ack_base: ack.base_packet_number,
+                ack_count: ack.num_packets_consumed,
+                refusal: Refusal::Below.number(),
+            },
+            Err(AcceptError::Refused(refusal)) => Self {
+                ack_base: 0,
+                ack_count: 0,
+                refusal: refusal.number(),
+            },
+        }
     }
 }
 
-pub fn started_of(o: OrderedBytes, answer: ordered_bytes::Started) -> Started
-    ensures { result ≡ started_of o (started_says answer) }
+// A peek answers nothing but its refusal.
+pub fn peeked_of(answer: Result<(), Refusal>) -> u8
+    ensures { result ≡ refusal_in (says (λ u. u) answer) }
 {
-    match answer {
-        ordered_bytes::Started::Buffer(v) => Started {
-            state: v,
-            refusal: 0,
-        },
-        ordered_bytes::Started::Refused(r) => Started {
-            state: o,
-            refusal: refusal::number(r),
-        },
+    answer.err().map_or(0, Refusal::number)
+}
+
+impl Consumed {
+    pub fn new(state: OrderedBytes, answer: Result<ConsumeResult, Refusal>) -> Self
+        ensures { result ≡ consumed_of state (consumed_says answer) }
+    {
+        match answer {
+            Ok(given) => Self {
+                state,
+                num_packets_consumed: given.num_packets_consumed,
+                base_packet_number: given.base_packet_number,
+                bytes_consumed: given.bytes_consumed,
+                refusal: 0,
+            },
+            Err(refusal) => Self {
+                state,
+                num_packets_consumed: 0,
+                base_packet_number: 0,
+                bytes_consumed: 0,
+                refusal: refusal.number(),
+            },
+        }
     }
 }
 
-pub fn accepted_of(answer: ordered_bytes::Accepted) -> Accepted
-    ensures { result ≡ accepted_of (accepted_says answer) (accepted_ack answer) }
-{
-    match answer {
-        ordered_bytes::Accepted::Stored => Accepted {
-            ack_base: 0,
-            ack_count: 0,
-            refusal: 0,
-        },
-        ordered_bytes::Accepted::Below(c) => Accepted {
-            ack_base: c.base_packet_number,
-            ack_count: c.num_packets_consumed,
-            refusal: refusal::number(Refusal::Below),
-        },
-        ordered_bytes::Accepted::Refused(r) => Accepted {
-            ack_base: 0,
-            ack_count: 0,
-            refusal: refusal::number(r),
-        },
-    }
-}
-
-pub fn peeked_of(answer: Peeked) -> u8
-    ensures { result ≡ refusal_in (peeked_says answer) }
-{
-    match answer {
-        Peeked::Available => 0,
-        Peeked::Refused(r) => refusal::number(r),
-    }
-}
-
-pub fn consumed_of(consumed: ordered_bytes::Consumed) -> Consumed
-    ensures { result ≡ consumed_of consumed.state (consumed_says consumed.answer) }
-{
-    let state = consumed.state;
-    let answer = consumed.answer;
-    match answer {
-        ConsumeAnswer::Given(c) => Consumed {
-            state: state,
-            num_packets_consumed: c.num_packets_consumed,
-            base_packet_number: c.base_packet_number,
-            bytes_consumed: c.bytes_consumed,
-            refusal: 0,
-        },
-        ConsumeAnswer::Refused(r) => Consumed {
-            state: state,
-            num_packets_consumed: 0,
-            base_packet_number: 0,
-            bytes_consumed: 0,
-            refusal: refusal::number(r),
-        },
-    }
-}
-
-pub fn consumed_bytes_of(consumed: ordered_bytes::ConsumedBytes) -> ConsumedBytes
-    ensures { result ≡ consumed_bytes_of consumed.state (consumed_bytes_says consumed.answer) }
-{
-    let state = consumed.state;
-    let answer = consumed.answer;
-    match answer {
-        ConsumeBytesAnswer::Given(c, pieces) => ConsumedBytes {
-            state: state,
-            num_packets_consumed: c.num_packets_consumed,
-            base_packet_number: c.base_packet_number,
-            bytes_consumed: c.bytes_consumed,
-            pieces: pieces,
-            refusal: 0,
-        },
-        ConsumeBytesAnswer::Refused(r) => ConsumedBytes {
-            state: state,
-            num_packets_consumed: 0,
-            base_packet_number: 0,
-            bytes_consumed: 0,
-            pieces: 0,
-            refusal: refusal::number(r),
-        },
+impl ConsumedBytes {
+    pub fn new(state: OrderedBytes, answer: Result<(ConsumeResult, usize), Refusal>) -> Self
+        ensures { result ≡ consumed_bytes_of state (consumed_bytes_says answer) }
+    {
+        match answer {
+            Ok((given, pieces)) => Self {
+                state,
+                num_packets_consumed: given.num_packets_consumed,
+                base_packet_number: given.base_packet_number,
+                bytes_consumed: given.bytes_consumed,
+                pieces,
+                refusal: 0,
+            },
+            Err(refusal) => Self {
+                state,
+                num_packets_consumed: 0,
+                base_packet_number: 0,
+                bytes_consumed: 0,
+                pieces: 0,
+                refusal: refusal.number(),
+            },
+        }
     }
 }

@@ -1,14 +1,14 @@
 // The close record of crates/close_handler as hosts have it: every part a number, 0 for the number of a FIN that is absent.
-// Proved: each conversion, either way, is that of specs/Closing.antt.
-ghost use Rattle.std.specs.Prelude.{◌≡◌};
-ghost use Rattle.close_handler.specs.Close.{number_in};
-ghost use Rattle.flat.specs.Closing.{state_in, fin_number_in, close_in, state_number, fin_of_state, is_some, number_or0, flat_close};
+// Proved: each conversion, either way, is that of specs/Closing.antt, and so is each call on a record.
+ghost use Rattle.std.specs.Prelude.{◌≡◌, ◌≤◌, ◌<◌};
+ghost use Rattle.refusal.specs.Said.{says, refuses, answers};
+ghost use Rattle.flat.specs.Closing.{close_in, flat_close, unless_malformed, fin_ack_taken};
 
-use close_handler::{CloseBuffer, CloseState, FinNumber};
+use close_handler::{CloseBuffer, CloseState};
 use refusal::Refusal;
 
 #[repr(C)]
-#[derive(Clone, Copy)]
+#[derive(Clone, Copy, Debug, PartialEq, Eq)]
 pub struct CloseRecord {
     pub state_fin: u64,
     pub pending_fin_ack_send: u64,
@@ -20,14 +20,14 @@ pub struct CloseRecord {
 }
 
 #[repr(C)]
-#[derive(Clone, Copy)]
+#[derive(Clone, Copy, Debug, PartialEq, Eq)]
 pub struct CloseAfter {
     pub close: CloseRecord,
     pub refusal: u8,
 }
 
 #[repr(C)]
-#[derive(Clone, Copy)]
+#[derive(Clone, Copy, Debug, PartialEq, Eq)]
 pub struct FinAckTaken {
     pub close: CloseRecord,
     pub number: u64,
@@ -35,121 +35,96 @@ pub struct FinAckTaken {
     pub refusal: u8,
 }
 
-fn state_in(state: u8, n: u64) -> CloseState
-    ensures { result ≡ state_in state n }
-{
-    match state {
-        0 => CloseState::Active,
-        1 => CloseState::PeerFinReceived(n),
-        2 => CloseState::LocalFinSent(n),
-        _ => CloseState::Closed,
+impl TryFrom<CloseRecord> for CloseBuffer {
+    type Error = Refusal;
+
+    ghost try_from_gives = { λ c r. says (λ b. b) r ≡ unless_malformed c refuses (answers (close_in c)) };
+
+    fn try_from(c: CloseRecord) -> Result<Self, Refusal> {
+        if c.state >= 4 {
+            return Err(Refusal::Malformed);
+        }
+        Ok(c.to_buffer())
     }
 }
 
-fn fin_number_in(is_there: bool, n: u64) -> FinNumber
-    ensures { result ≡ fin_number_in is_there n }
-{
-    if is_there {
-        FinNumber::Number(n)
-    } else {
-        FinNumber::Nothing
+impl From<CloseBuffer> for CloseRecord {
+    ghost from_gives = { λ b c. c ≡ flat_close b };
+
+    fn from(b: CloseBuffer) -> Self {
+        let (state, state_fin) = match b.state {
+            CloseState::Active => (0, 0),
+            CloseState::PeerFinReceived(n) => (1, n),
+            CloseState::LocalFinSent(n) => (2, n),
+            CloseState::Closed => (3, 0),
+        };
+        Self {
+            state_fin,
+            pending_fin_ack_send: b.pending_fin_ack_send.unwrap_or(0),
+            received_fin_ack_for: b.received_fin_ack_for.unwrap_or(0),
+            state,
+            is_pending: b.pending_fin_ack_send.is_some(),
+            is_received: b.received_fin_ack_for.is_some(),
+            peer_fin_observed: b.peer_fin_observed,
+        }
     }
 }
 
-// The record that a host's numbers mean. The caller has refused the state numbers above 3.
-pub fn close_in(c: CloseRecord) -> CloseBuffer
-    ensures { result ≡ close_in c }
-{
-    CloseBuffer {
-        state: state_in(c.state, c.state_fin),
-        pending_fin_ack_send: fin_number_in(c.is_pending, c.pending_fin_ack_send),
-        received_fin_ack_for: fin_number_in(c.is_received, c.received_fin_ack_for),
-        peer_fin_observed: c.peer_fin_observed,
+impl CloseRecord {
+    // The record that a host's numbers mean. A state number above 3 stands for Closed here, and `try_from` refuses it.
+    pub fn to_buffer(self) -> CloseBuffer
+        ensures { result ≡ close_in self }
+    {
+        CloseBuffer {
+            state: match self.state {
+                0 => CloseState::Active,
+                1 => CloseState::PeerFinReceived(self.state_fin),
+                2 => CloseState::LocalFinSent(self.state_fin),
+                _ => CloseState::Closed,
+            },
+            pending_fin_ack_send: self.is_pending.then_some(self.pending_fin_ack_send),
+            received_fin_ack_for: self.is_received.then_some(self.received_fin_ack_for),
+            peer_fin_observed: self.peer_fin_observed,
+        }
     }
-}
 
-fn state_number(state: CloseState) -> u8
-    ensures { result ≡ state_number state }
-{
-    match state {
-        CloseState::Active => 0,
-        CloseState::PeerFinReceived(_) => 1,
-        CloseState::LocalFinSent(_) => 2,
-        CloseState::Closed => 3,
+    // The record after an event, or as it came where no state has its number.
+    pub fn after<F: FnOnce(CloseBuffer) -> CloseBuffer>(self, event: F) -> CloseAfter
+        requires { F.IsAlwaysCallable event }
+        ensures malformed { 4 ≤ self.state → result ≡ record { close = self; refusal = 12 } }
+        ensures moved { self.state < 4 → (b : _) × F.post event (close_in self) b × (result ≡ record { close = flat_close b; refusal = 0 }) }
+    {
+        match CloseBuffer::try_from(self) {
+            Ok(b) => CloseAfter {
+                close: event(b).into(),
+                refusal: 0,
+            },
+            Err(r) => CloseAfter {
+                close: self,
+                refusal: r.number(),
+            },
+        }
     }
-}
 
-fn state_fin(state: CloseState) -> u64
-    ensures { result ≡ fin_of_state state }
-{
-    match state {
-        CloseState::Active => 0,
-        CloseState::PeerFinReceived(n) => n,
-        CloseState::LocalFinSent(n) => n,
-        CloseState::Closed => 0,
-    }
-}
-
-fn is_there(fin: FinNumber) -> bool
-    ensures { result ≡ is_some (number_in fin) }
-{
-    match fin {
-        FinNumber::Nothing => false,
-        FinNumber::Number(_) => true,
-    }
-}
-
-fn number_or_0(fin: FinNumber) -> u64
-    ensures { result ≡ number_or0 (number_in fin) }
-{
-    match fin {
-        FinNumber::Nothing => 0,
-        FinNumber::Number(n) => n,
-    }
-}
-
-pub fn flat_close(c: CloseBuffer) -> CloseRecord
-    ensures { result ≡ flat_close c }
-{
-    let state = c.state;
-    let owed = c.pending_fin_ack_send;
-    let recorded = c.received_fin_ack_for;
-    CloseRecord {
-        state_fin: state_fin(state),
-        pending_fin_ack_send: number_or_0(owed),
-        received_fin_ack_for: number_or_0(recorded),
-        state: state_number(state),
-        is_pending: is_there(owed),
-        is_received: is_there(recorded),
-        peer_fin_observed: c.peer_fin_observed,
-    }
-}
-
-pub fn malformed(c: CloseRecord) -> CloseAfter
-    ensures { result ≡ record { close = c; refusal = 12 } }
-{
-    CloseAfter {
-        close: c,
-        refusal: refusal::number(Refusal::Malformed),
-    }
-}
-
-pub fn close_after(c: CloseBuffer) -> CloseAfter
-    ensures { result ≡ record { close = flat_close c; refusal = 0 } }
-{
-    CloseAfter {
-        close: flat_close(c),
-        refusal: 0,
-    }
-}
-
-pub fn fin_ack_taken(owed: FinNumber, c: CloseBuffer) -> FinAckTaken
-    ensures { result ≡ record { close = flat_close c; number = number_or0 (number_in owed); was_pending = is_some (number_in owed); refusal = 0 } }
-{
-    FinAckTaken {
-        close: flat_close(c),
-        number: number_or_0(owed),
-        was_pending: is_there(owed),
-        refusal: 0,
+    pub fn take_pending_fin_ack_send(self) -> FinAckTaken
+        ensures { result ≡ fin_ack_taken self }
+    {
+        match CloseBuffer::try_from(self) {
+            Ok(mut b) => {
+                let owed = b.take_pending_fin_ack_send();
+                FinAckTaken {
+                    close: b.into(),
+                    number: owed.unwrap_or(0),
+                    was_pending: owed.is_some(),
+                    refusal: 0,
+                }
+            }
+            Err(r) => FinAckTaken {
+                close: self,
+                number: 0,
+                was_pending: false,
+                refusal: r.number(),
+            },
+        }
     }
 }

@@ -1,13 +1,14 @@
 // Headers as hosts have them, every field a number, and the answers of crates/header.
 // Proved: each conversion is that of specs/Headers.antt.
 ghost use Rattle.std.specs.Prelude.{◌≡◌};
-ghost use Rattle.header.specs.Header.{header_written_says, header_read_says};
-ghost use Rattle.flat.specs.Headers.{header_in, flat_header, no_header, written_of, header_read_of};
+ghost use Rattle.refusal.specs.Said.{says, read_says};
+ghost use Rattle.flat.specs.Headers.{header_in, header_known, flat_header, no_header, written_of, header_read_of};
 
-use header::{BluefinHeader, BluefinSecurityFields, HeaderWritten};
+use header::{BluefinHeader, BluefinSecurityFields, PacketType};
+use refusal::{ReadError, Refusal};
 
 #[repr(C)]
-#[derive(Clone, Copy)]
+#[derive(Clone, Copy, Debug, PartialEq, Eq)]
 pub struct Header {
     pub packet_number: u64,
     pub source_connection_id: u32,
@@ -20,99 +21,108 @@ pub struct Header {
 }
 
 #[repr(C)]
-#[derive(Clone, Copy)]
+#[derive(Clone, Copy, Debug, PartialEq, Eq)]
 pub struct Written {
     pub bytes: usize,
     pub refusal: u8,
 }
 
 #[repr(C)]
-#[derive(Clone, Copy)]
+#[derive(Clone, Copy, Debug, PartialEq, Eq)]
 pub struct HeaderRead {
     pub header: Header,
     pub cursor: usize,
     pub refusal: u8,
 }
 
-// The header that a host's numbers mean. A type number above 6 stands for the last type: who writes refuses it first.
-pub fn header_in(header: Header) -> BluefinHeader
-    ensures { result ≡ header_in header }
-{
-    let security = BluefinSecurityFields {
-        header_encrypted: header.header_encrypted,
-        header_protection_mask: header.header_protection_mask,
-    };
-    BluefinHeader {
-        version: header.version,
-        type_field: header::type_of(header.type_field),
-        type_specific_payload: header.type_specific_payload,
-        security_fields: security,
-        source_connection_id: header.source_connection_id,
-        destination_connection_id: header.destination_connection_id,
-        packet_number: header.packet_number,
+impl Header {
+    // The header that the numbers mean. A type number above 6 stands for the last type: who writes refuses it first, by `try_from`.
+    pub fn to_header(self) -> BluefinHeader
+        ensures { result ≡ header_in self }
+    {
+        BluefinHeader {
+            version: self.version,
+            type_field: PacketType::of_number(self.type_field),
+            type_specific_payload: self.type_specific_payload,
+            security_fields: BluefinSecurityFields::new(
+                self.header_encrypted,
+                self.header_protection_mask,
+            ),
+            source_connection_id: self.source_connection_id,
+            destination_connection_id: self.destination_connection_id,
+            packet_number: self.packet_number,
+        }
     }
 }
 
-pub fn flat_header(header: BluefinHeader) -> Header
-    ensures { result ≡ flat_header header }
-{
-    let type_field = header.type_field;
-    let security = header.security_fields;
-    Header {
-        packet_number: header.packet_number,
-        source_connection_id: header.source_connection_id,
-        destination_connection_id: header.destination_connection_id,
-        type_specific_payload: header.type_specific_payload,
-        version: header.version,
-        type_field: header::type_number(type_field),
-        header_protection_mask: security.header_protection_mask,
-        header_encrypted: security.header_encrypted,
+impl TryFrom<Header> for BluefinHeader {
+    type Error = Refusal;
+
+    ghost try_from_gives = { λ h r. says (λ b. b) r ≡ header_known h };
+
+    fn try_from(header: Header) -> Result<Self, Refusal> {
+        PacketType::try_from(header.type_field)?;
+        Ok(header.to_header())
     }
 }
 
-fn no_header() -> Header
-    ensures { result ≡ no_header }
-{
-    Header {
-        packet_number: 0,
-        source_connection_id: 0,
-        destination_connection_id: 0,
-        type_specific_payload: 0,
-        version: 0,
-        type_field: 0,
-        header_protection_mask: 0,
-        header_encrypted: false,
+impl From<BluefinHeader> for Header {
+    ghost from_gives = { λ b h. h ≡ flat_header b };
+
+    fn from(header: BluefinHeader) -> Self {
+        Self {
+            packet_number: header.packet_number,
+            source_connection_id: header.source_connection_id,
+            destination_connection_id: header.destination_connection_id,
+            type_specific_payload: header.type_specific_payload,
+            version: header.version,
+            type_field: header.type_field.into(),
+            header_protection_mask: header.security_fields.header_protection_mask,
+            header_encrypted: header.security_fields.header_encrypted,
+        }
     }
 }
 
-pub fn written_of(answer: HeaderWritten) -> Written
-    ensures { result ≡ written_of (header_written_says answer) }
-{
-    match answer {
-        HeaderWritten::Bytes(n) => Written {
-            bytes: n,
-            refusal: 0,
-        },
-        HeaderWritten::Refused(r) => Written {
-            bytes: 0,
-            refusal: refusal::number(r),
-        },
+const NO_HEADER: Header = Header {
+    packet_number: 0,
+    source_connection_id: 0,
+    destination_connection_id: 0,
+    type_specific_payload: 0,
+    version: 0,
+    type_field: 0,
+    header_protection_mask: 0,
+    header_encrypted: false,
+};
+
+impl From<Result<usize, Refusal>> for Written {
+    ghost from_gives = { λ r w. w ≡ written_of (says (λ n. n) r) };
+
+    fn from(answer: Result<usize, Refusal>) -> Self {
+        match answer {
+            Ok(bytes) => Self { bytes, refusal: 0 },
+            Err(refusal) => Self {
+                bytes: 0,
+                refusal: refusal.number(),
+            },
+        }
     }
 }
 
-pub fn header_read_of(answer: header::HeaderRead) -> HeaderRead
-    ensures { result ≡ header_read_of (header_read_says answer) }
-{
-    match answer {
-        header::HeaderRead::Header(h) => HeaderRead {
-            header: flat_header(h),
-            cursor: 0,
-            refusal: 0,
-        },
-        header::HeaderRead::Refused(r, at) => HeaderRead {
-            header: no_header(),
-            cursor: at,
-            refusal: refusal::number(r),
-        },
+impl From<Result<BluefinHeader, ReadError>> for HeaderRead {
+    ghost from_gives = { λ r h. h ≡ header_read_of (read_says (λ b. b) r) };
+
+    fn from(answer: Result<BluefinHeader, ReadError>) -> Self {
+        match answer {
+            Ok(header) => Self {
+                header: header.into(),
+                cursor: 0,
+                refusal: 0,
+            },
+            Err(error) => Self {
+                header: NO_HEADER,
+                cursor: error.cursor.unwrap_or(0),
+                refusal: error.refusal.number(),
+            },
+        }
     }
 }

@@ -5,6 +5,7 @@ ghost use Rattle.flat.specs.Hello.{host_in};
 
 use net::BluefinHost;
 
+// No `From`, since both types are other crates'.
 pub fn host_in(host: u8) -> BluefinHost
     ensures { result ≡ host_in host }
 {

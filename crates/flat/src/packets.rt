@@ -1,70 +1,49 @@
 // The answers of crates/packet as hosts have them.
-// Proved: each conversion is that of specs/Packets.antt or, where bytes are written, specs/Headers.antt.
+// Proved: each conversion is that of specs/Packets.antt. Where bytes are written, the answer is one of headers.rt.
 ghost use Rattle.std.specs.Prelude.{◌≡◌};
-ghost use Rattle.packet.specs.Packet.{packet_written_says};
-ghost use Rattle.packet.specs.Datagram.{parsed_says};
-ghost use Rattle.flat.specs.Headers.{written_of};
+ghost use Rattle.refusal.specs.Said.{read_says};
 ghost use Rattle.flat.specs.Packets.{parsed_of, indexed_of};
 
-use crate::headers::Written;
-use packet::{Indexed, PacketWritten};
+use packet::Indexed;
+use refusal::ReadError;
 
 // `packets` is how many stand in the index, refused or not.
 #[repr(C)]
-#[derive(Clone, Copy)]
+#[derive(Clone, Copy, Debug, PartialEq, Eq)]
 pub struct Parsed {
     pub packets: usize,
     pub cursor: usize,
     pub refusal: u8,
 }
 
-pub fn packet_written_of(answer: PacketWritten) -> Written
-    ensures { result ≡ written_of (packet_written_says answer) }
-{
-    match answer {
-        PacketWritten::Bytes(n) => Written {
-            bytes: n,
-            refusal: 0,
-        },
-        PacketWritten::Refused(r) => Written {
-            bytes: 0,
-            refusal: refusal::number(r),
-        },
-    }
-}
-
 // Of a call that leaves the index as it was where it refuses.
-pub fn parsed_of(answer: packet::Parsed) -> Parsed
-    ensures { result ≡ parsed_of (parsed_says answer) }
-{
-    match answer {
-        packet::Parsed::Packets(n) => Parsed {
-            packets: n,
-            cursor: 0,
-            refusal: 0,
-        },
-        packet::Parsed::Refused(r) => Parsed {
-            packets: 0,
-            cursor: 0,
-            refusal: refusal::number(r),
-        },
-        packet::Parsed::RefusedAt(r, at) => Parsed {
-            packets: 0,
-            cursor: at,
-            refusal: refusal::number(r),
-        },
+impl From<Result<usize, ReadError>> for Parsed {
+    ghost from_gives = { λ answer p. p ≡ parsed_of (read_says (λ n. n) answer) };
+
+    fn from(answer: Result<usize, ReadError>) -> Self {
+        match answer {
+            Ok(packets) => Self {
+                packets,
+                cursor: 0,
+                refusal: 0,
+            },
+            Err(e) => Self {
+                packets: 0,
+                cursor: e.cursor.unwrap_or(0),
+                refusal: e.refusal.number(),
+            },
+        }
     }
 }
 
 // Of a call that keeps the packets before a refusal.
-pub fn indexed_of(indexed: Indexed) -> Parsed
-    ensures { result ≡ indexed_of (parsed_says indexed.answer) indexed.cells }
-{
-    let answer = indexed.answer;
-    let parsed = parsed_of(answer);
-    Parsed {
-        packets: indexed.cells,
-        cursor: parsed.cursor,
-        refusal: parsed.refusal,
+impl From<Indexed> for Parsed {
+    ghost from_gives = { λ indexed p. p ≡ indexed_of (read_says (λ n. n) indexed.answer) indexed.cells };
+
+    fn from(indexed: Indexed) -> Self {
+        Self {
+            packets: indexed.cells,
+            ..indexed.answer.into()
+        }
     }
 }

@@ -1,16 +1,16 @@
-// The answers of crates/ring_buffer, and of packing acks, as hosts have them.
+// The answers of crates/ring_buffer, and of packing acks, as hosts have them: each beside the ring to go on with, which is the view's after the call.
 // Proved: each conversion is that of specs/Ring.antt.
 ghost use Rattle.std.specs.Prelude.{◌≡◌};
-ghost use Rattle.ring_buffer.specs.Ring.{blank};
-ghost use Rattle.ring_buffer.specs.Says.{pushed_says, ring_pushed, popped_says, ring_popped, peeked_says, cleared_says, ring_cleared};
-ghost use Rattle.writer.specs.Acks.{acks_says, ring_after};
+ghost use Rattle.refusal.specs.Said.{says};
+ghost use Rattle.ring_buffer.specs.Views.{given_back};
 ghost use Rattle.flat.specs.Ring.{pushed_of, popped_of, cleared_of, acks_of};
 
+use refusal::Refusal;
 use ring_buffer::{AckData, RingBuffer};
-use writer::acks::AcksAnswer;
+use writer::acks;
 
 #[repr(C)]
-#[derive(Clone, Copy)]
+#[derive(Clone, Copy, Debug, PartialEq, Eq)]
 pub struct Pushed {
     pub ring: RingBuffer,
     pub given_back: AckData,
@@ -19,7 +19,7 @@ pub struct Pushed {
 }
 
 #[repr(C)]
-#[derive(Clone, Copy)]
+#[derive(Clone, Copy, Debug, PartialEq, Eq)]
 pub struct Popped {
     pub ring: RingBuffer,
     pub ack: AckData,
@@ -27,14 +27,14 @@ pub struct Popped {
 }
 
 #[repr(C)]
-#[derive(Clone, Copy)]
+#[derive(Clone, Copy, Debug, PartialEq, Eq)]
 pub struct Cleared {
     pub ring: RingBuffer,
     pub refusal: u8,
 }
 
 #[repr(C)]
-#[derive(Clone, Copy)]
+#[derive(Clone, Copy, Debug, PartialEq, Eq)]
 pub struct AcksPacked {
     pub ring: RingBuffer,
     pub acks: usize,
@@ -42,108 +42,81 @@ pub struct AcksPacked {
     pub refusal: u8,
 }
 
-fn no_record() -> AckData
-    ensures { result ≡ blank }
-{
-    AckData {
-        base_packet_num: 0,
-        num_packets_consumed: 0,
+impl Pushed {
+    pub fn new(ring: RingBuffer, answer: Result<Option<AckData>, Refusal>) -> Self
+        ensures { result ≡ pushed_of ring (says given_back answer) }
+    {
+        match answer {
+            Ok(None) => Self {
+                ring,
+                given_back: AckData::BLANK,
+                full: false,
+                refusal: 0,
+            },
+            Ok(Some(a)) => Self {
+                ring,
+                given_back: a,
+                full: true,
+                refusal: 0,
+            },
+            Err(r) => Self {
+                ring,
+                given_back: AckData::BLANK,
+                full: false,
+                refusal: r.number(),
+            },
+        }
     }
 }
 
-pub fn pushed_of(ring: RingBuffer, answer: ring_buffer::Pushed) -> Pushed
-    ensures { result ≡ pushed_of (ring_pushed ring answer) (pushed_says answer) }
-{
-    let none = no_record();
-    match answer {
-        ring_buffer::Pushed::Stored(after) => Pushed {
-            ring: after,
-            given_back: none,
-            full: false,
-            refusal: 0,
-        },
-        ring_buffer::Pushed::Full(a) => Pushed {
-            ring,
-            given_back: a,
-            full: true,
-            refusal: 0,
-        },
-        ring_buffer::Pushed::Refused(r) => Pushed {
-            ring,
-            given_back: none,
-            full: false,
-            refusal: refusal::number(r),
-        },
+impl Popped {
+    // Of a record popped, or only looked at: then the ring is the one that came in.
+    pub fn new(ring: RingBuffer, answer: Result<AckData, Refusal>) -> Self
+        ensures { result ≡ popped_of ring (says (λ a. a) answer) }
+    {
+        match answer {
+            Ok(ack) => Self {
+                ring,
+                ack,
+                refusal: 0,
+            },
+            Err(r) => Self {
+                ring,
+                ack: AckData::BLANK,
+                refusal: r.number(),
+            },
+        }
     }
 }
 
-pub fn popped_of(ring: RingBuffer, answer: ring_buffer::Popped) -> Popped
-    ensures { result ≡ popped_of (ring_popped ring answer) (popped_says answer) }
-{
-    let none = no_record();
-    match answer {
-        ring_buffer::Popped::Record(after, a) => Popped {
-            ring: after,
-            ack: a,
-            refusal: 0,
-        },
-        ring_buffer::Popped::Refused(r) => Popped {
+impl Cleared {
+    pub fn new(ring: RingBuffer, answer: Result<(), Refusal>) -> Self
+        ensures { result ≡ cleared_of ring (says (λ u. u) answer) }
+    {
+        Self {
             ring,
-            ack: none,
-            refusal: refusal::number(r),
-        },
+            refusal: answer.err().map_or(0, Refusal::number),
+        }
     }
 }
 
-// Popped and peeked records go out alike; where one is only looked at the ring is the one that came in.
-pub fn peeked_of(ring: RingBuffer, answer: ring_buffer::Peeked) -> Popped
-    ensures { result ≡ popped_of ring (peeked_says answer) }
-{
-    let none = no_record();
-    match answer {
-        ring_buffer::Peeked::Record(a) => Popped {
-            ring,
-            ack: a,
-            refusal: 0,
-        },
-        ring_buffer::Peeked::Refused(r) => Popped {
-            ring,
-            ack: none,
-            refusal: refusal::number(r),
-        },
-    }
-}
-
-pub fn cleared_of(ring: RingBuffer, answer: ring_buffer::Cleared) -> Cleared
-    ensures { result ≡ cleared_of (ring_cleared ring answer) (cleared_says answer) }
-{
-    match answer {
-        ring_buffer::Cleared::Empty(after) => Cleared {
-            ring: after,
-            refusal: 0,
-        },
-        ring_buffer::Cleared::Refused(r) => Cleared {
-            ring,
-            refusal: refusal::number(r),
-        },
-    }
-}
-
-pub fn acks_packed_of(ring: RingBuffer, answer: AcksAnswer) -> AcksPacked
-    ensures { result ≡ acks_of (ring_after ring answer) (acks_says answer) }
-{
-    match answer {
-        AcksAnswer::Packed(after, packed) => AcksPacked {
-            ring: after,
-            acks: packed.acks,
-            to_send: packed.to_send,
-            refusal: 0,
-        },
-        AcksAnswer::Refused(r) => AcksPacked {
-            ring,
-            acks: 0,
-            to_send: false,
-            refusal: refusal::number(r),
-        },
+impl AcksPacked {
+    pub fn new(ring: RingBuffer, answer: Result<acks::AcksPacked, Refusal>) -> Self
+        ensures { result ≡ acks_of ring (says (λ p. p) answer) }
+    {
+        match answer {
+            Ok(packed) => Self {
+                ring,
+                acks: packed.acks,
+                to_send: packed.to_send,
+                refusal: 0,
+            },
+            Err(r) => Self {
+                ring,
+                acks: 0,
+                to_send: false,
+                refusal: r.number(),
+            },
+        }
     }
 }

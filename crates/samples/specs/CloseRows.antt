@@ -1,6 +1,5 @@
 -- Boundaries of closing and opening: the close record, the headers of a FIN and a FIN-ACK, and the tests of handshake packets. Document 01, "Closing".
-use Rattle.std.specs.Prelude.{ℕ, ◌-◌, ◌^◌, ◌≡◌, Bool, true, false, List, [], ◌∷◌, ◌++◌, map, replicate}
-use Rattle.std.proofs.Math.Option.{Option, none, some}
+use Rattle.std.specs.Prelude.{ℕ, ◌-◌, ◌^◌, ◌≡◌, Bool, true, false, List, [], ◌∷◌, ◌++◌, map, replicate, Option, Some, None}
 use Rattle.refusal.specs.Said.{answers, refuses}
 use Rattle.header.specs.declared.PacketType.{PacketType}
 use Rattle.header.specs.declared.PacketType.TheVariants.{UnencryptedClientHello, UnencryptedServerHello, ClientAck, UnencryptedData, Ack, Fin, FinAck}
@@ -8,8 +7,6 @@ use Rattle.header.specs.declared.BluefinHeader.{BluefinHeader}
 use Rattle.close_handler.specs.declared.CloseBuffer.{CloseBuffer}
 use Rattle.close_handler.specs.declared.CloseState.{CloseState}
 use Rattle.close_handler.specs.declared.CloseState.TheVariants.{Active, PeerFinReceived, LocalFinSent, Closed}
-use Rattle.close_handler.specs.declared.FinNumber.{FinNumber}
-use Rattle.close_handler.specs.declared.FinNumber.TheVariants.{Nothing, Number}
 use Rattle.close_handler.specs.Close.{fresh, after_fin, after_fin_ack, after_local_fin, after_closed, taken}
 use Rattle.net.specs.declared.BluefinHost.TheVariants.{PackLeader, Client, Other}
 use Rattle.net.specs.Control.{header_alone, writes_fin, writes_fin_ack}
@@ -19,7 +16,7 @@ use Rattle.samples.specs.Inputs.{Leaves, lent, security, header, head}
 -- ---- the close record
 
 -- a record by its state, the FIN-ACK owed, the one recorded, and the observed flag
-abbrev pub close : CloseState → FinNumber → FinNumber → Bool → CloseBuffer
+abbrev pub close : CloseState → Option ℕ → Option ℕ → Bool → CloseBuffer
 close state owed recorded observed = record {
   state = state;
   pending_fin_ack_send = owed;
@@ -32,45 +29,45 @@ abbrev pub Takes : CloseBuffer → Option ℕ → CloseBuffer → Type 0
 Takes c answer left = ◌≡◌ {A = Option ℕ × CloseBuffer} (taken c) (answer, left)
 
 pub record CloseRows : Type 0 where
-  pub new : fresh false ≡ close Active Nothing Nothing false
-  pub new_observed : fresh true ≡ close Active Nothing Nothing true
+  pub new : fresh false ≡ close Active None None false
+  pub new_observed : fresh true ≡ close Active None None true
   -- "FIN n: in Active or LocalFinSent, the state becomes PeerFinReceived(n), a FIN-ACK for n is owed, the observed flag is set"
-  pub fin_active : after_fin (close Active Nothing (Number 4) false) 7 ≡ close (PeerFinReceived 7) (Number 7) (Number 4) true
-  pub fin_local : after_fin (close (LocalFinSent 5) Nothing (Number 4) false) 7 ≡ close (PeerFinReceived 7) (Number 7) (Number 4) true
-  pub fin_local_same_number : after_fin (close (LocalFinSent 7) Nothing Nothing true) 7 ≡ close (PeerFinReceived 7) (Number 7) Nothing true
-  pub fin_local_owing : after_fin (close (LocalFinSent 5) (Number 3) Nothing true) 7 ≡ close (PeerFinReceived 7) (Number 7) Nothing true
+  pub fin_active : after_fin (close Active None (Some 4) false) 7 ≡ close (PeerFinReceived 7) (Some 7) (Some 4) true
+  pub fin_local : after_fin (close (LocalFinSent 5) None (Some 4) false) 7 ≡ close (PeerFinReceived 7) (Some 7) (Some 4) true
+  pub fin_local_same_number : after_fin (close (LocalFinSent 7) None None true) 7 ≡ close (PeerFinReceived 7) (Some 7) None true
+  pub fin_local_owing : after_fin (close (LocalFinSent 5) (Some 3) None true) 7 ≡ close (PeerFinReceived 7) (Some 7) None true
   -- "in PeerFinReceived(n) it is owed again; else ignored": after it was taken, while it is owed, with another number, and in Closed
-  pub fin_again : after_fin (close (PeerFinReceived 7) Nothing (Number 4) true) 7 ≡ close (PeerFinReceived 7) (Number 7) (Number 4) true
-  pub fin_again_owed : after_fin (close (PeerFinReceived 7) (Number 7) Nothing true) 7 ≡ close (PeerFinReceived 7) (Number 7) Nothing true
-  pub fin_again_flag_stays : after_fin (close (PeerFinReceived 7) Nothing Nothing false) 7 ≡ close (PeerFinReceived 7) (Number 7) Nothing false
-  pub fin_other_number : after_fin (close (PeerFinReceived 6) Nothing (Number 4) true) 7 ≡ close (PeerFinReceived 6) Nothing (Number 4) true
-  pub fin_other_number_owed : after_fin (close (PeerFinReceived 6) (Number 6) Nothing true) 7 ≡ close (PeerFinReceived 6) (Number 6) Nothing true
-  pub fin_closed : after_fin (close Closed Nothing (Number 4) false) 7 ≡ close Closed Nothing (Number 4) false
-  pub fin_closed_owed : after_fin (close Closed (Number 6) Nothing true) 7 ≡ close Closed (Number 6) Nothing true
+  pub fin_again : after_fin (close (PeerFinReceived 7) None (Some 4) true) 7 ≡ close (PeerFinReceived 7) (Some 7) (Some 4) true
+  pub fin_again_owed : after_fin (close (PeerFinReceived 7) (Some 7) None true) 7 ≡ close (PeerFinReceived 7) (Some 7) None true
+  pub fin_again_flag_stays : after_fin (close (PeerFinReceived 7) None None false) 7 ≡ close (PeerFinReceived 7) (Some 7) None false
+  pub fin_other_number : after_fin (close (PeerFinReceived 6) None (Some 4) true) 7 ≡ close (PeerFinReceived 6) None (Some 4) true
+  pub fin_other_number_owed : after_fin (close (PeerFinReceived 6) (Some 6) None true) 7 ≡ close (PeerFinReceived 6) (Some 6) None true
+  pub fin_closed : after_fin (close Closed None (Some 4) false) 7 ≡ close Closed None (Some 4) false
+  pub fin_closed_owed : after_fin (close Closed (Some 6) None true) 7 ≡ close Closed (Some 6) None true
   -- "A FIN-ACK is always recorded, over the last."
-  pub fin_ack_first : after_fin_ack (close Active Nothing Nothing false) 7 ≡ close Active Nothing (Number 7) false
-  pub fin_ack_active : after_fin_ack (close Active Nothing (Number 4) false) 7 ≡ close Active Nothing (Number 7) false
-  pub fin_ack_peer : after_fin_ack (close (PeerFinReceived 6) (Number 6) (Number 4) true) 7 ≡ close (PeerFinReceived 6) (Number 6) (Number 7) true
-  pub fin_ack_local : after_fin_ack (close (LocalFinSent 5) (Number 6) (Number 4) false) 7 ≡ close (LocalFinSent 5) (Number 6) (Number 7) false
-  pub fin_ack_closed : after_fin_ack (close Closed (Number 6) (Number 4) false) 7 ≡ close Closed (Number 6) (Number 7) false
+  pub fin_ack_first : after_fin_ack (close Active None None false) 7 ≡ close Active None (Some 7) false
+  pub fin_ack_active : after_fin_ack (close Active None (Some 4) false) 7 ≡ close Active None (Some 7) false
+  pub fin_ack_peer : after_fin_ack (close (PeerFinReceived 6) (Some 6) (Some 4) true) 7 ≡ close (PeerFinReceived 6) (Some 6) (Some 7) true
+  pub fin_ack_local : after_fin_ack (close (LocalFinSent 5) (Some 6) (Some 4) false) 7 ≡ close (LocalFinSent 5) (Some 6) (Some 7) false
+  pub fin_ack_closed : after_fin_ack (close Closed (Some 6) (Some 4) false) 7 ≡ close Closed (Some 6) (Some 7) false
   -- "Sending our FIN n moves Active or PeerFinReceived to LocalFinSent(n); else ignored."
-  pub local_active : after_local_fin (close Active Nothing (Number 4) false) 7 ≡ close (LocalFinSent 7) Nothing (Number 4) false
-  pub local_peer : after_local_fin (close (PeerFinReceived 6) (Number 6) (Number 4) true) 7 ≡ close (LocalFinSent 7) (Number 6) (Number 4) true
-  pub local_local : after_local_fin (close (LocalFinSent 5) (Number 6) (Number 4) true) 7 ≡ close (LocalFinSent 5) (Number 6) (Number 4) true
-  pub local_closed : after_local_fin (close Closed (Number 6) (Number 4) true) 7 ≡ close Closed (Number 6) (Number 4) true
+  pub local_active : after_local_fin (close Active None (Some 4) false) 7 ≡ close (LocalFinSent 7) None (Some 4) false
+  pub local_peer : after_local_fin (close (PeerFinReceived 6) (Some 6) (Some 4) true) 7 ≡ close (LocalFinSent 7) (Some 6) (Some 4) true
+  pub local_local : after_local_fin (close (LocalFinSent 5) (Some 6) (Some 4) true) 7 ≡ close (LocalFinSent 5) (Some 6) (Some 4) true
+  pub local_closed : after_local_fin (close Closed (Some 6) (Some 4) true) 7 ≡ close Closed (Some 6) (Some 4) true
   -- "Taking the owed one clears it, or answers none."
-  pub take_active : Takes (close Active (Number 7) (Number 4) false) (some 7) (close Active Nothing (Number 4) false)
-  pub take_peer : Takes (close (PeerFinReceived 7) (Number 7) (Number 4) true) (some 7) (close (PeerFinReceived 7) Nothing (Number 4) true)
-  pub take_local : Takes (close (LocalFinSent 5) (Number 7) (Number 4) true) (some 7) (close (LocalFinSent 5) Nothing (Number 4) true)
-  pub take_closed : Takes (close Closed (Number 7) (Number 4) true) (some 7) (close Closed Nothing (Number 4) true)
-  pub take_number_0 : Takes (close (PeerFinReceived 0) (Number 0) Nothing true) (some 0) (close (PeerFinReceived 0) Nothing Nothing true)
-  pub take_none : Takes (close (PeerFinReceived 7) Nothing (Number 4) true) none (close (PeerFinReceived 7) Nothing (Number 4) true)
-  pub take_twice : Takes (taken (close (PeerFinReceived 7) (Number 7) (Number 4) true)).1 none (close (PeerFinReceived 7) Nothing (Number 4) true)
+  pub take_active : Takes (close Active (Some 7) (Some 4) false) (Some 7) (close Active None (Some 4) false)
+  pub take_peer : Takes (close (PeerFinReceived 7) (Some 7) (Some 4) true) (Some 7) (close (PeerFinReceived 7) None (Some 4) true)
+  pub take_local : Takes (close (LocalFinSent 5) (Some 7) (Some 4) true) (Some 7) (close (LocalFinSent 5) None (Some 4) true)
+  pub take_closed : Takes (close Closed (Some 7) (Some 4) true) (Some 7) (close Closed None (Some 4) true)
+  pub take_number_0 : Takes (close (PeerFinReceived 0) (Some 0) None true) (Some 0) (close (PeerFinReceived 0) None None true)
+  pub take_none : Takes (close (PeerFinReceived 7) None (Some 4) true) None (close (PeerFinReceived 7) None (Some 4) true)
+  pub take_twice : Takes (taken (close (PeerFinReceived 7) (Some 7) (Some 4) true)).1 None (close (PeerFinReceived 7) None (Some 4) true)
   -- "`mark_closed` gives Closed from any state."
-  pub closed_active : after_closed (close Active Nothing (Number 4) false) ≡ close Closed Nothing (Number 4) false
-  pub closed_peer : after_closed (close (PeerFinReceived 7) (Number 7) (Number 4) true) ≡ close Closed (Number 7) (Number 4) true
-  pub closed_local : after_closed (close (LocalFinSent 5) (Number 7) (Number 4) false) ≡ close Closed (Number 7) (Number 4) false
-  pub closed_closed : after_closed (close Closed (Number 7) Nothing true) ≡ close Closed (Number 7) Nothing true
+  pub closed_active : after_closed (close Active None (Some 4) false) ≡ close Closed None (Some 4) false
+  pub closed_peer : after_closed (close (PeerFinReceived 7) (Some 7) (Some 4) true) ≡ close Closed (Some 7) (Some 4) true
+  pub closed_local : after_closed (close (LocalFinSent 5) (Some 7) (Some 4) false) ≡ close Closed (Some 7) (Some 4) false
+  pub closed_closed : after_closed (close Closed (Some 7) None true) ≡ close Closed (Some 7) None true
 
 -- ---- the headers of a FIN and a FIN-ACK
 

@@ -11,10 +11,11 @@ fn main() -> ExitCode {
     let security = BluefinSecurityFields::new(false, 0);
     let header = BluefinHeader::new(1, 2, PacketType::UnencryptedData, 5, security);
     let numbered = header.with_packet_number(7);
-    let mut written = [0u8; 20];
-    numbered.serialise_into(&mut written);
-    let same = written
-        == *b"\x03\x00\x05\x00\x00\x00\x00\x01\x00\x00\x00\x02\x00\x00\x00\x00\x00\x00\x00\x07";
+    let mut buf = [0u8; 20];
+    let written = numbered.serialise_into(&mut buf);
+    let same = written == Ok(20)
+        && buf
+            == *b"\x03\x00\x05\x00\x00\x00\x00\x01\x00\x00\x00\x02\x00\x00\x00\x00\x00\x00\x00\x07";
     prove!(same);
     if same {
         ExitCode::SUCCESS
