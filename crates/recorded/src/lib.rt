@@ -1,13 +1,43 @@
-// Recorded questions and answers: words of 8 bytes on an input, the highest byte first, and lines of decimal numbers on an output.
+// Recorded questions and answers, replayed: words of 8 bytes on an input, the highest byte first, and lines of decimal numbers on an output.
 // oracle/ writes the records. Proved: reading stays within the buffer that is lent, whatever the input holds, and every loop ends.
 // A read or a write that fails is answered with its error.
 #![tactic(auto)]
 
 ghost use Rattle.std.specs.Prelude.{◌≤◌, length, IfOk};
 
-use std::io::{self, Read, Write};
+use std::io::{self, BufReader, BufWriter, Input, Print, Printer, Read, Write};
 
-// Reads until buf is full or the input ends. Answers how many of buf's bytes were read.
+// A record that is replayed: the questions that are left to read, and where their answers go.
+#[derive(Drop)]
+pub struct Replay<R, W> {
+    pub questions: R,
+    pub answers: W,
+}
+
+// Answers each question of the standard input on a line of the standard output: their number comes first, and each begins with the number of its command.
+// The programs match that number where they read it: an enum of commands, with its TryFrom, would list each of them twice.
+pub fn answer_each<'rt, R: Input + Print + AllocGlobal, F>(
+    rt: &'rt R,
+    mut answer: F,
+) -> io::Result<()>
+where
+    F: FnMut(u64, &mut Replay<BufReader<R::Reader>, BufWriter<Printer<'rt, R>>>) -> io::Result<()>,
+    requires { F.IsAlwaysCallable answer }
+{
+    let mut replay = Replay {
+        questions: BufReader::new(rt.alloc(), rt.reader())?,
+        answers: BufWriter::new(rt.alloc(), io::writer(rt))?,
+    };
+    let commands = replay.read_word()?;
+    for _ in 0..commands {
+        let command = replay.read_word()?;
+        answer(command, &mut replay)?;
+        writeln!(replay.answers)?;
+    }
+    replay.answers.flush()
+}
+
+// Reads until buf is full or the input ends, and answers how many of buf's bytes were read. `read_exact` answers an early end with an error; here what is missing of a record is zeros.
 fn read_full(input: &mut impl Read, buf: &mut [u8]) -> io::Result<usize>
     ensures { IfOk result (λ n. n ≤ length buf.new) }
 {
@@ -22,84 +52,71 @@ fn read_full(input: &mut impl Read, buf: &mut [u8]) -> io::Result<usize>
     Ok(done)
 }
 
-// The next word, or 0 where the input has ended.
-pub fn read_word(input: &mut impl Read) -> io::Result<u64> {
-    let mut word = [0u8; 8];
-    read_full(input, &mut word)?;
-    Ok(parts::get8(&word, 0))
-}
-
-// The next word as a number of so many bits: the recorded ones fit.
-pub fn read_u8(input: &mut impl Read) -> io::Result<u8> {
-    Ok((read_word(input)? % 256) as u8)
-}
-
-pub fn read_u16(input: &mut impl Read) -> io::Result<u16> {
-    Ok((read_word(input)? % 65536) as u16)
-}
-
-pub fn read_u32(input: &mut impl Read) -> io::Result<u32> {
-    Ok((read_word(input)? % 4294967296) as u32)
-}
-
-// A length: the next word, or buf's length where that is less.
-pub fn read_length(input: &mut impl Read, buf: &[u8]) -> io::Result<usize>
-    ensures { IfOk result (λ n. n ≤ length buf.now) }
-{
-    let n = read_word(input)? as usize;
-    let length = if n < buf.len() { n } else { buf.len() };
-    Ok(length)
-}
-
-// Bytes, recorded as their length and themselves, filled up to whole words. Answers how many of buf's bytes they are: none where buf is too short.
-pub fn read_bytes(input: &mut impl Read, buf: &mut [u8]) -> io::Result<usize>
-    ensures { IfOk result (λ n. n ≤ length buf.new) }
-{
-    let n = read_word(input)? as usize;
-    let fill = (8 - n % 8) % 8;
-    if n > buf.len() {
-        return Ok(0);
+impl<R: Read, W> Replay<R, W> {
+    // The next word, or 0 where the input has ended.
+    pub fn read_word(&mut self) -> io::Result<u64> {
+        let mut word = [0u8; 8];
+        read_full(&mut self.questions, &mut word)?;
+        Ok(u64::from_be_bytes(word))
     }
-    if fill > buf.len() - n {
-        return Ok(0);
+
+    // The next word as a number of so many bits: the recorded ones fit.
+    // Three functions: one for every type needs a trait whose impls are these three lines again.
+    pub fn read_u8(&mut self) -> io::Result<u8> {
+        Ok((self.read_word()? % 256) as u8)
     }
-    let end = n + fill;
-    read_full(input, &mut buf[..end])?;
-    Ok(n)
-}
 
-// An answer's line begins with its kind: 0, or the number of a refusal, unless the command says otherwise.
-pub fn begin_line(output: &mut impl Write, kind: u64) -> io::Result<()> {
-    write!(output, "{kind}")
-}
+    pub fn read_u16(&mut self) -> io::Result<u16> {
+        Ok((self.read_word()? % 65536) as u16)
+    }
 
-pub fn print_number(output: &mut impl Write, n: u64) -> io::Result<()> {
-    write!(output, " {n}")
-}
+    pub fn read_u32(&mut self) -> io::Result<u32> {
+        Ok((self.read_word()? % 4294967296) as u32)
+    }
 
-pub fn print_bool(output: &mut impl Write, b: bool) -> io::Result<()> {
-    if b {
-        print_number(output, 1)
-    } else {
-        print_number(output, 0)
+    // A length: the next word, or buf's length where that is less.
+    pub fn read_length(&mut self, buf: &[u8]) -> io::Result<usize>
+        ensures { IfOk result (λ n. n ≤ length buf.now) }
+    {
+        let n = self.read_word()? as usize;
+        Ok(n.min(buf.len()))
+    }
+
+    // Bytes, recorded as their length and themselves, filled up to whole words. Answers how many of buf's bytes they are: none where buf is too short.
+    pub fn read_bytes(&mut self, buf: &mut [u8]) -> io::Result<usize>
+        ensures { IfOk result (λ n. n ≤ length buf.new) }
+    {
+        let n = self.read_word()? as usize;
+        match n.checked_next_multiple_of(8) {
+            Some(end) if end <= buf.len() => {
+                read_full(&mut self.questions, &mut buf[..end])?;
+                Ok(n)
+            }
+            _ => Ok(0),
+        }
     }
 }
 
-fn print_byte(output: &mut impl Write, b: u8) -> io::Result<()> {
-    print_number(output, b as u64)
-}
-
-pub fn print_bytes(output: &mut impl Write, bytes: &[u8]) -> io::Result<()> {
-    let mut i = 0;
-    while i < bytes.len() {
-        print_byte(output, bytes[i])?;
-        i += 1;
+impl<R, W: Write> Replay<R, W> {
+    // An answer's line begins with its kind: 0, or the number of a refusal, unless the command says otherwise.
+    pub fn begin_line(&mut self, kind: u64) -> io::Result<()> {
+        write!(self.answers, "{kind}")
     }
-    Ok(())
-}
 
-pub fn end_line(output: &mut impl Write) -> io::Result<()> {
-    output.write_all(b"\n")
+    pub fn print_number(&mut self, n: u64) -> io::Result<()> {
+        write!(self.answers, " {n}")
+    }
+
+    pub fn print_bool(&mut self, b: bool) -> io::Result<()> {
+        self.print_number(b as u64)
+    }
+
+    pub fn print_bytes(&mut self, bytes: &[u8]) -> io::Result<()> {
+        for byte in bytes {
+            write!(self.answers, " {byte}")?;
+        }
+        Ok(())
+    }
 }
 
 // What stands for bytes that are too many to print: each of them, and where it stands, counts.
@@ -107,12 +124,6 @@ pub fn add_byte(sum: u64, byte: u8) -> u64 {
     sum % 1_000_000_007 * 257 + byte as u64 + 1
 }
 
-pub fn sum_of(output: &[u8]) -> u64 {
-    let mut sum = 0;
-    let mut i = 0;
-    while i < output.len() {
-        sum = add_byte(sum, output[i]);
-        i += 1;
-    }
-    sum
+pub fn sum_of(bytes: &[u8]) -> u64 {
+    bytes.iter().fold(0, |sum, &byte| add_byte(sum, byte))
 }

@@ -2,49 +2,79 @@
 #![tactic(auto)]
 
 use header::{BluefinHeader, BluefinSecurityFields, PacketType};
+use recorded::Replay;
+use std::fmt::{self, Display, Formatter};
 use std::io::{self, Read, Write};
 
 // The type of a word: the recorded ones are 0 to 6.
-pub fn read_type(input: &mut impl Read) -> io::Result<PacketType> {
-    Ok(header::type_of(recorded::read_u8(input)?))
+pub fn read_type(replay: &mut Replay<impl Read, impl Write>) -> io::Result<PacketType> {
+    Ok(PacketType::of_number(replay.read_u8()?))
 }
 
-pub fn read_security(input: &mut impl Read) -> io::Result<BluefinSecurityFields> {
-    let encrypted = recorded::read_word(input)? != 0;
-    Ok(BluefinSecurityFields::new(encrypted, recorded::read_u8(input)?))
+pub fn read_security(
+    replay: &mut Replay<impl Read, impl Write>,
+) -> io::Result<BluefinSecurityFields> {
+    let encrypted = replay.read_word()? != 0;
+    Ok(BluefinSecurityFields::new(encrypted, replay.read_u8()?))
 }
 
-pub fn read_header(input: &mut impl Read) -> io::Result<BluefinHeader> {
-    let version = recorded::read_u8(input)?;
-    let type_field = read_type(input)?;
-    let field = recorded::read_u16(input)?;
-    let security = read_security(input)?;
-    let source = recorded::read_u32(input)?;
-    let destination = recorded::read_u32(input)?;
-    let number = recorded::read_word(input)?;
-    let mut h = BluefinHeader::new(source, destination, type_field, field, security);
-    h.version = version;
-    Ok(h.with_packet_number(number))
+pub fn read_header(replay: &mut Replay<impl Read, impl Write>) -> io::Result<BluefinHeader> {
+    Ok(BluefinHeader {
+        version: replay.read_u8()?,
+        type_field: read_type(replay)?,
+        type_specific_payload: replay.read_u16()?,
+        security_fields: read_security(replay)?,
+        source_connection_id: replay.read_u32()?,
+        destination_connection_id: replay.read_u32()?,
+        packet_number: replay.read_word()?,
+    })
 }
 
-pub fn print_security(output: &mut impl Write, s: BluefinSecurityFields) -> io::Result<()> {
-    recorded::print_bool(output, s.encrypted())?;
-    recorded::print_number(output, s.mask() as u64)
+// Prints as the numbers of a record.
+#[derive(Clone, Copy)]
+pub struct Numbers<T>(pub T);
+
+impl Display for Numbers<BluefinSecurityFields> {
+    fn fmt<W: fmt::Write>(&self, f: &mut Formatter<W>) -> fmt::Result {
+        let fields = self.0;
+        write!(f, "{} {}", fields.encrypted() as u8, fields.mask())
+    }
 }
 
-// All but the version, which the caller prints before them.
-fn print_after_version(output: &mut impl Write, h: BluefinHeader) -> io::Result<()> {
-    let type_field = h.type_field;
-    let security = h.security_fields;
-    recorded::print_number(output, header::type_number(type_field) as u64)?;
-    recorded::print_number(output, h.type_specific_payload as u64)?;
-    print_security(output, security)?;
-    recorded::print_number(output, h.source_connection_id as u64)?;
-    recorded::print_number(output, h.destination_connection_id as u64)?;
-    recorded::print_number(output, h.packet_number)
+impl Display for Numbers<BluefinHeader> {
+    fn fmt<W: fmt::Write>(&self, f: &mut Formatter<W>) -> fmt::Result {
+        let BluefinHeader {
+            version,
+            type_field,
+            type_specific_payload,
+            security_fields,
+            source_connection_id,
+            destination_connection_id,
+            packet_number,
+        } = self.0;
+        let type_number = u8::from(type_field);
+        let security = Numbers(security_fields);
+        write!(
+            f,
+            "{version} {type_number} {type_specific_payload} {security} "
+        )?;
+        write!(
+            f,
+            "{source_connection_id} {destination_connection_id} {packet_number}"
+        )
+    }
 }
 
-pub fn print_header(output: &mut impl Write, h: BluefinHeader) -> io::Result<()> {
-    recorded::print_number(output, h.version as u64)?;
-    print_after_version(output, h)
+pub fn print_security(
+    replay: &mut Replay<impl Read, impl Write>,
+    s: BluefinSecurityFields,
+) -> io::Result<()> {
+    write!(replay.answers, " {}", Numbers(s))
+}
+
+pub fn print_header(
+    replay: &mut Replay<impl Read, impl Write>,
+    h: BluefinHeader,
+) -> io::Result<()> {
+    write!(replay.answers, " {}", Numbers(h))
 }

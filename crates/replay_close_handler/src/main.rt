@@ -3,107 +3,67 @@
 // The transitions by value are called: the calls on a lent record are proved equal to them.
 #![tactic(auto)]
 
-use close_handler::{CloseBuffer, CloseState, FinNumber};
-use std::io::{self, BufReader, BufWriter, Read, Write};
+use close_handler::{CloseBuffer, CloseState};
+use recorded::Replay;
+use std::io::{self, Read, Write};
 
-fn print_maybe(output: &mut impl Write, n: FinNumber) -> io::Result<()> {
-    match n {
-        FinNumber::Nothing => {
-            recorded::print_number(output, 0)?;
-            recorded::print_number(output, 0)
-        }
-        FinNumber::Number(k) => {
-            recorded::print_number(output, 1)?;
-            recorded::print_number(output, k)
-        }
-    }
+// 1 and the number, or 0 and 0.
+fn print_maybe(replay: &mut Replay<impl Read, impl Write>, n: Option<u64>) -> io::Result<()> {
+    replay.print_bool(n.is_some())?;
+    replay.print_number(n.unwrap_or(0))
 }
 
-fn print_state(output: &mut impl Write, s: CloseState) -> io::Result<()> {
-    match s {
-        CloseState::Active => print_kind(output, 0, 0),
-        CloseState::PeerFinReceived(n) => print_kind(output, 1, n),
-        CloseState::LocalFinSent(n) => print_kind(output, 2, n),
-        CloseState::Closed => print_kind(output, 3, 0),
-    }
-}
-
-fn print_kind(output: &mut impl Write, kind: u64, n: u64) -> io::Result<()> {
-    recorded::print_number(output, kind)?;
-    recorded::print_number(output, n)
+fn print_state(replay: &mut Replay<impl Read, impl Write>, s: CloseState) -> io::Result<()> {
+    let (kind, n) = match s {
+        CloseState::Active => (0, 0),
+        CloseState::PeerFinReceived(n) => (1, n),
+        CloseState::LocalFinSent(n) => (2, n),
+        CloseState::Closed => (3, 0),
+    };
+    replay.print_number(kind)?;
+    replay.print_number(n)
 }
 
 // The record: state, FIN-ACK owed, FIN-ACK recorded, flag.
-fn print_record(output: &mut impl Write, c: CloseBuffer) -> io::Result<()> {
-    let state = c.state;
-    let owed = c.pending_fin_ack_send;
-    let recorded_for = c.received_fin_ack_for;
-    print_state(output, state)?;
-    print_maybe(output, owed)?;
-    print_maybe(output, recorded_for)?;
-    recorded::print_bool(output, c.peer_fin_observed)?;
-    recorded::end_line(output)
+fn print_record(replay: &mut Replay<impl Read, impl Write>, c: CloseBuffer) -> io::Result<()> {
+    print_state(replay, c.state)?;
+    print_maybe(replay, c.pending_fin_ack_send)?;
+    print_maybe(replay, c.received_fin_ack_for)?;
+    replay.print_bool(c.peer_fin_observed)
 }
 
-// An event that takes nothing.
-fn begin_event(output: &mut impl Write) -> io::Result<()> {
-    recorded::begin_line(output, 0)?;
-    recorded::print_number(output, 0)
-}
-
-fn take(output: &mut impl Write, c: CloseBuffer) -> io::Result<CloseBuffer> {
-    let owed = c.pending_fin_ack_send;
-    match owed {
-        FinNumber::Nothing => begin_event(output)?,
-        FinNumber::Number(n) => {
-            recorded::begin_line(output, 1)?;
-            recorded::print_number(output, n)?;
-        }
-    }
-    Ok(close_handler::after_take(c))
-}
-
-fn after_event(
-    input: &mut impl Read,
-    output: &mut impl Write,
-    c: CloseBuffer,
-    event: u64,
-) -> io::Result<CloseBuffer> {
-    begin_event(output)?;
-    let after = match event {
-        0 => close_handler::new(recorded::read_word(input)? != 0),
-        1 => close_handler::after_fin(c, recorded::read_word(input)?),
-        2 => close_handler::after_fin_ack(c, recorded::read_word(input)?),
-        3 => close_handler::after_local_fin(c, recorded::read_word(input)?),
-        _ => close_handler::after_closed(c),
-    };
-    Ok(after)
+// The FIN-ACK that an event takes from the record: only event 4 takes one.
+fn begin_event(replay: &mut Replay<impl Read, impl Write>, taken: Option<u64>) -> io::Result<()> {
+    replay.begin_line(taken.is_some() as u64)?;
+    replay.print_number(taken.unwrap_or(0))
 }
 
 fn answer(
-    input: &mut impl Read,
-    output: &mut impl Write,
+    event: u64,
+    replay: &mut Replay<impl Read, impl Write>,
     c: CloseBuffer,
 ) -> io::Result<CloseBuffer> {
-    let event = recorded::read_word(input)?;
-    let after = if event == 4 {
-        take(output, c)?
-    } else {
-        after_event(input, output, c, event)?
+    let mut taken = None;
+    let after = match event {
+        0 => CloseBuffer::new(replay.read_word()? != 0),
+        1 => c.after_fin(replay.read_word()?),
+        2 => c.after_fin_ack(replay.read_word()?),
+        3 => c.after_local_fin(replay.read_word()?),
+        4 => {
+            taken = c.pending_fin_ack_send;
+            c.after_take()
+        }
+        _ => c.after_closed(),
     };
-    print_record(output, after)?;
+    begin_event(replay, taken)?;
+    print_record(replay, after)?;
     Ok(after)
 }
 
 fn main(rt: HostRuntime) -> io::Result<()> {
-    let mut input = BufReader::new(rt.alloc(), rt.reader())?;
-    let mut output = BufWriter::new(rt.alloc(), io::writer(&rt))?;
-    let commands = recorded::read_word(&mut input)?;
-    let mut c = close_handler::new(false);
-    let mut i = 0;
-    while i < commands {
-        c = answer(&mut input, &mut output, c)?;
-        i += 1;
-    }
-    output.flush()
+    let mut c = CloseBuffer::new(false);
+    recorded::answer_each(&rt, |event, replay| {
+        c = answer(event, replay, c)?;
+        Ok(())
+    })
 }

@@ -3,84 +3,66 @@
 // fields and bytes. Left out: versions above 15, masks above 127 and short buffers (11, 10), unknown types (4).
 #![tactic(auto)]
 
-use header::{
-    BluefinHeader, BluefinSecurityFields, HeaderRead, HeaderWritten, SecurityRead, SecurityWritten,
-};
-use std::io::{self, BufReader, BufWriter, Read, Write};
+use header::{BluefinHeader, BluefinSecurityFields};
+use recorded::Replay;
+use std::io::{self, Read, Write};
 
-fn security_serialise(input: &mut impl Read, output: &mut impl Write) -> io::Result<()> {
-    let fields = recorded_header::read_security(input)?;
+fn security_serialise(replay: &mut Replay<impl Read, impl Write>) -> io::Result<()> {
+    let fields = recorded_header::read_security(replay)?;
     match fields.serialise() {
-        SecurityWritten::Byte(b) => {
-            recorded::begin_line(output, 0)?;
-            recorded::print_number(output, b as u64)
+        Ok(b) => {
+            replay.begin_line(0)?;
+            replay.print_number(b as u64)
         }
-        SecurityWritten::Refused(r) => recorded::begin_line(output, refusal::number(r) as u64),
+        Err(refusal) => replay.begin_line(refusal.number() as u64),
     }
 }
 
-fn security_deserialise(input: &mut impl Read, output: &mut impl Write) -> io::Result<()> {
+fn security_deserialise(replay: &mut Replay<impl Read, impl Write>) -> io::Result<()> {
     let mut buf = [0u8; 64];
-    let n = recorded::read_bytes(input, &mut buf)?;
+    let n = replay.read_bytes(&mut buf)?;
     match BluefinSecurityFields::deserialise(&buf[..n]) {
-        SecurityRead::Fields(fields) => {
-            recorded::begin_line(output, 0)?;
-            recorded_header::print_security(output, fields)
+        Ok(fields) => {
+            replay.begin_line(0)?;
+            recorded_header::print_security(replay, fields)
         }
-        SecurityRead::Refused(r, _) => recorded::begin_line(output, refusal::number(r) as u64),
+        Err(error) => replay.begin_line(error.refusal.number() as u64),
     }
 }
 
 // Every byte of the buffer is printed: those past the header stay at 9.
-fn print_written(output: &mut impl Write, h: BluefinHeader, buf: &mut [u8]) -> io::Result<()> {
-    match h.serialise_into(buf) {
-        HeaderWritten::Bytes(n) => {
-            recorded::begin_line(output, 0)?;
-            recorded::print_number(output, n as u64)?;
-        }
-        HeaderWritten::Refused(r) => recorded::begin_line(output, refusal::number(r) as u64)?,
-    }
-    recorded::print_bytes(output, buf)
-}
-
-fn serialise_into(input: &mut impl Read, output: &mut impl Write) -> io::Result<()> {
-    let h = recorded_header::read_header(input)?;
+fn serialise_into(replay: &mut Replay<impl Read, impl Write>) -> io::Result<()> {
+    let h = recorded_header::read_header(replay)?;
     let mut buf = [9u8; 64];
-    let room = recorded::read_length(input, &buf)?;
-    print_written(output, h, &mut buf[..room])
-}
-
-fn deserialise(input: &mut impl Read, output: &mut impl Write) -> io::Result<()> {
-    let mut buf = [0u8; 64];
-    let n = recorded::read_bytes(input, &mut buf)?;
-    match BluefinHeader::deserialise(&buf[..n]) {
-        HeaderRead::Header(h) => {
-            recorded::begin_line(output, 0)?;
-            recorded_header::print_header(output, h)
+    let room = replay.read_length(&buf)?;
+    let out = &mut buf[..room];
+    match h.serialise_into(out) {
+        Ok(n) => {
+            replay.begin_line(0)?;
+            replay.print_number(n as u64)?;
         }
-        HeaderRead::Refused(r, _) => recorded::begin_line(output, refusal::number(r) as u64),
+        Err(refusal) => replay.begin_line(refusal.number() as u64)?,
     }
+    replay.print_bytes(out)
 }
 
-fn answer(input: &mut impl Read, output: &mut impl Write) -> io::Result<()> {
-    let command = recorded::read_word(input)?;
-    match command {
-        1 => security_serialise(input, output)?,
-        2 => security_deserialise(input, output)?,
-        3 => serialise_into(input, output)?,
-        _ => deserialise(input, output)?,
+fn deserialise(replay: &mut Replay<impl Read, impl Write>) -> io::Result<()> {
+    let mut buf = [0u8; 64];
+    let n = replay.read_bytes(&mut buf)?;
+    match BluefinHeader::deserialise(&buf[..n]) {
+        Ok(h) => {
+            replay.begin_line(0)?;
+            recorded_header::print_header(replay, h)
+        }
+        Err(error) => replay.begin_line(error.refusal.number() as u64),
     }
-    recorded::end_line(output)
 }
 
 fn main(rt: HostRuntime) -> io::Result<()> {
-    let mut input = BufReader::new(rt.alloc(), rt.reader())?;
-    let mut output = BufWriter::new(rt.alloc(), io::writer(&rt))?;
-    let commands = recorded::read_word(&mut input)?;
-    let mut i = 0;
-    while i < commands {
-        answer(&mut input, &mut output)?;
-        i += 1;
-    }
-    output.flush()
+    recorded::answer_each(&rt, |command, replay| match command {
+        1 => security_serialise(replay),
+        2 => security_deserialise(replay),
+        3 => serialise_into(replay),
+        _ => deserialise(replay),
+    })
 }

@@ -3,89 +3,66 @@
 // Left out: short buffers (10). The Rust has no such test, as it writes a header of its own.
 #![tactic(auto)]
 
-use header::HeaderWritten;
-use net::BluefinHost;
-use std::io::{self, BufReader, BufWriter, Read, Write};
+use net::{BluefinHost, ConnectionIds};
+use recorded::Replay;
+use std::io::{self, Read, Write};
 
-fn read_host(input: &mut impl Read) -> io::Result<BluefinHost> {
-    let word = recorded::read_word(input)?;
-    let host = match word {
+fn read_host(replay: &mut Replay<impl Read, impl Write>) -> io::Result<BluefinHost> {
+    Ok(match replay.read_word()? {
         0 => BluefinHost::PackLeader,
         1 => BluefinHost::Client,
         _ => BluefinHost::Other,
-    };
-    Ok(host)
+    })
 }
 
-fn yes(b: bool) -> u64 {
-    if b { 1 } else { 0 }
+fn read_ids(replay: &mut Replay<impl Read, impl Write>) -> io::Result<ConnectionIds> {
+    Ok(ConnectionIds {
+        source: replay.read_u32()?,
+        destination: replay.read_u32()?,
+    })
 }
 
-fn hello(input: &mut impl Read, output: &mut impl Write, command: u64) -> io::Result<()> {
-    let host = read_host(input)?;
-    let packet_type = recorded_header::read_type(input)?;
-    let source = recorded::read_u32(input)?;
-    let destination = recorded::read_u32(input)?;
-    let h = net::build_empty_encrypted_packet(source, destination, 0, packet_type);
-    if command == 1 {
-        recorded::begin_line(output, yes(net::is_hello_packet(host, h)))
+fn hello(replay: &mut Replay<impl Read, impl Write>, command: u64) -> io::Result<()> {
+    let host = read_host(replay)?;
+    let packet_type = recorded_header::read_type(replay)?;
+    let ids = read_ids(replay)?;
+    let h = net::build_empty_encrypted_packet(ids, 0, packet_type);
+    let yes = if command == 1 {
+        net::is_hello_packet(host, h)
     } else {
-        recorded::begin_line(output, yes(net::is_client_ack_packet(host, h)))
-    }
+        net::is_client_ack_packet(host, h)
+    };
+    replay.begin_line(yes as u64)
 }
 
 // The payload's length comes first: a header alone has none.
-fn build_empty(input: &mut impl Read, output: &mut impl Write) -> io::Result<()> {
-    let source = recorded::read_u32(input)?;
-    let destination = recorded::read_u32(input)?;
-    let number = recorded::read_word(input)?;
-    let packet_type = recorded_header::read_type(input)?;
-    let h = net::build_empty_encrypted_packet(source, destination, number, packet_type);
-    recorded::begin_line(output, 0)?;
-    recorded_header::print_header(output, h)
+fn build_empty(replay: &mut Replay<impl Read, impl Write>) -> io::Result<()> {
+    let ids = read_ids(replay)?;
+    let number = replay.read_word()?;
+    let packet_type = recorded_header::read_type(replay)?;
+    let h = net::build_empty_encrypted_packet(ids, number, packet_type);
+    replay.begin_line(0)?;
+    recorded_header::print_header(replay, h)
 }
 
 // The bytes written, and each of them.
-fn print_written(output: &mut impl Write, written: HeaderWritten, buf: &[u8]) -> io::Result<()> {
-    match written {
-        HeaderWritten::Bytes(n) => recorded::begin_line(output, n as u64)?,
-        HeaderWritten::Refused(_) => recorded::begin_line(output, 0)?,
-    }
-    recorded::print_bytes(output, buf)
-}
-
-fn control(input: &mut impl Read, output: &mut impl Write, command: u64) -> io::Result<()> {
-    let source = recorded::read_u32(input)?;
-    let destination = recorded::read_u32(input)?;
-    let number = recorded::read_word(input)?;
+fn control(replay: &mut Replay<impl Read, impl Write>, command: u64) -> io::Result<()> {
+    let ids = read_ids(replay)?;
+    let number = replay.read_word()?;
     let mut buf = [9u8; net::BLUEFIN_HEADER_SIZE_BYTES];
-    if command == 4 {
-        let written = net::write_fin(source, destination, number, &mut buf);
-        print_written(output, written, &buf)
+    let written = if command == 4 {
+        net::write_fin(ids, number, &mut buf)
     } else {
-        let written = net::write_fin_ack(source, destination, number, &mut buf);
-        print_written(output, written, &buf)
-    }
-}
-
-fn answer(input: &mut impl Read, output: &mut impl Write) -> io::Result<()> {
-    let command = recorded::read_word(input)?;
-    match command {
-        1 | 2 => hello(input, output, command)?,
-        3 => build_empty(input, output)?,
-        _ => control(input, output, command)?,
-    }
-    recorded::end_line(output)
+        net::write_fin_ack(ids, number, &mut buf)
+    };
+    replay.begin_line(written.unwrap_or(0) as u64)?;
+    replay.print_bytes(&buf)
 }
 
 fn main(rt: HostRuntime) -> io::Result<()> {
-    let mut input = BufReader::new(rt.alloc(), rt.reader())?;
-    let mut output = BufWriter::new(rt.alloc(), io::writer(&rt))?;
-    let commands = recorded::read_word(&mut input)?;
-    let mut i = 0;
-    while i < commands {
-        answer(&mut input, &mut output)?;
-        i += 1;
-    }
-    output.flush()
+    recorded::answer_each(&rt, |command, replay| match command {
+        1 | 2 => hello(replay, command),
+        3 => build_empty(replay),
+        _ => control(replay, command),
+    })
 }

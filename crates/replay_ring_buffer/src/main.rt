@@ -2,51 +2,43 @@
 // Asked is every ring that a list of calls can leave, at each capacity from 0 to 8. hosts/replay/ring_buffer replays the calls over cells.
 #![tactic(auto)]
 
+use recorded::Replay;
 use refusal::Refusal;
-use ring_buffer::{Counted, RingBuffer, Tested};
-use std::io::{self, BufReader, BufWriter, Read, Write};
+use ring_buffer::RingBuffer;
+use std::io::{self, Read, Write};
 
-fn refused(output: &mut impl Write, r: Refusal) -> io::Result<()> {
-    recorded::print_number(output, refusal::number(r) as u64)
+fn answer(replay: &mut Replay<impl Read, impl Write>) -> io::Result<()> {
+    let capacity = replay.read_word()? as usize;
+    let ring = RingBuffer {
+        head: replay.read_word()? as usize,
+        tail: replay.read_word()? as usize,
+        len: replay.read_word()? as usize,
+    };
+    replay.begin_line(0)?;
+    print_counted(replay, ring.len(capacity))?;
+    print_tested(replay, ring.is_empty(capacity))?;
+    print_tested(replay, ring.is_full(capacity))
 }
 
-fn print_tested(output: &mut impl Write, tested: Tested) -> io::Result<()> {
-    match tested {
-        Tested::Is(b) => recorded::print_bool(output, b),
-        Tested::Refused(r) => refused(output, r),
-    }
-}
-
-fn print_counted(output: &mut impl Write, counted: Counted) -> io::Result<()> {
+// What a call counts, or the number of its refusal.
+fn print_counted(
+    replay: &mut Replay<impl Read, impl Write>,
+    counted: Result<usize, Refusal>,
+) -> io::Result<()> {
     match counted {
-        Counted::Count(n) => recorded::print_number(output, n as u64),
-        Counted::Refused(r) => refused(output, r),
+        Ok(n) => replay.print_number(n as u64),
+        Err(r) => replay.print_number(r.number() as u64),
     }
 }
 
-fn answer(input: &mut impl Read, output: &mut impl Write) -> io::Result<()> {
-    // the command's number: there is but one
-    recorded::read_word(input)?;
-    let capacity = recorded::read_word(input)? as usize;
-    let head = recorded::read_word(input)? as usize;
-    let tail = recorded::read_word(input)? as usize;
-    let len = recorded::read_word(input)? as usize;
-    let ring = RingBuffer { head, tail, len };
-    recorded::begin_line(output, 0)?;
-    print_counted(output, ring_buffer::len(ring, capacity))?;
-    print_tested(output, ring_buffer::is_empty(ring, capacity))?;
-    print_tested(output, ring_buffer::is_full(ring, capacity))?;
-    recorded::end_line(output)
+fn print_tested(
+    replay: &mut Replay<impl Read, impl Write>,
+    tested: Result<bool, Refusal>,
+) -> io::Result<()> {
+    print_counted(replay, tested.map(usize::from))
 }
 
+// There is but one command.
 fn main(rt: HostRuntime) -> io::Result<()> {
-    let mut input = BufReader::new(rt.alloc(), rt.reader())?;
-    let mut output = BufWriter::new(rt.alloc(), io::writer(&rt))?;
-    let commands = recorded::read_word(&mut input)?;
-    let mut i = 0;
-    while i < commands {
-        answer(&mut input, &mut output)?;
-        i += 1;
-    }
-    output.flush()
+    recorded::answer_each(&rt, |_, replay| answer(replay))
 }

@@ -8,9 +8,11 @@
 
 ghost use Rattle.std.specs.Prelude.{◌≤◌, length, IfOk};
 
-use outstanding::PLACES;
-use std::io::{self, BufReader, BufWriter, Read, Write};
-use writer::{DataAnswer, DataPacked};
+use net::ConnectionIds;
+use outstanding::{Outstanding, PLACES, StoreViewMut};
+use recorded::Replay;
+use std::io::{self, Read, Write};
+use writer::{DataPacked, Queue};
 
 // The longest queue that is asked about, in bytes and in entries.
 const QUEUE_LEN: usize = 65536;
@@ -30,122 +32,92 @@ fn queued_byte(at: usize) -> u8 {
 }
 
 fn fill_queue(bytes: &mut [u8]) {
-    let mut i = 0;
-    while i < bytes.len() {
-        bytes[i] = queued_byte(i);
-        i += 1;
+    for (at, byte) in bytes.iter_mut().enumerate() {
+        *byte = queued_byte(at);
     }
 }
 
 // The lengths of the queue's entries, recorded behind their number. Answers how many of the cells they are: none where the cells are too few.
-fn read_entries(input: &mut impl Read, lengths: &mut [u32]) -> io::Result<usize>
+fn read_entries(
+    replay: &mut Replay<impl Read, impl Write>,
+    lengths: &mut [u32],
+) -> io::Result<usize>
     ensures { IfOk result (λ n. n ≤ length lengths.new) }
 {
-    let n = recorded::read_word(input)? as usize;
+    let n = replay.read_word()? as usize;
     if n > lengths.len() {
         return Ok(0);
     }
-    let mut i = 0;
-    while i < n {
-        lengths[i] = recorded::read_u32(input)?;
-        i += 1;
+    for length in &mut lengths[..n] {
+        *length = replay.read_u32()?;
     }
     Ok(n)
 }
 
-fn print_packed(output: &mut impl Write, p: DataPacked) -> io::Result<()> {
-    recorded::begin_line(output, 0)?;
-    recorded::print_number(output, p.bytes as u64)?;
-    recorded::print_number(output, p.packets as u64)?;
-    recorded::print_number(output, p.next_packet_num)?;
-    recorded::print_number(output, p.entries_removed as u64)?;
-    recorded::print_number(output, p.bytes_cut as u64)
+fn print_packed(replay: &mut Replay<impl Read, impl Write>, p: DataPacked) -> io::Result<()> {
+    write!(replay.answers, "0 {} {} ", p.bytes, p.packets)?;
+    write!(
+        replay.answers,
+        "{} {} {}",
+        p.next_packet_num, p.entries_removed, p.bytes_cut
+    )
 }
 
 // Every byte of the output counts in the sum: those past the packets stay at 9. Each packing is lent an empty store: with ten places free it answers what the Rust,
 // which has no store, does.
 fn pack_into(
-    output: &mut impl Write,
+    replay: &mut Replay<impl Read, impl Write>,
     next_packet_num: u64,
-    src_conn_id: u32,
-    dst_conn_id: u32,
+    ids: ConnectionIds,
     out: &mut [u8],
-    bytes: &[u8],
-    lengths: &[u32],
+    queue: &Queue,
 ) -> io::Result<()> {
     let mut numbers = [0u64; PLACES];
     let mut payload_lengths = [0u32; PLACES];
     let mut packets = [0u8; STORE_LEN];
-    let answer = writer::consume_data_into(
-        outstanding::new(),
-        bytes,
-        lengths,
-        next_packet_num,
-        src_conn_id,
-        dst_conn_id,
-        out,
-        &mut numbers,
-        &mut payload_lengths,
-        &mut packets,
-    );
-    match answer {
-        DataAnswer::Packed(p, _) => print_packed(output, p)?,
-        DataAnswer::Refused(r) => recorded::begin_line(output, refusal::number(r) as u64)?,
+    let mut store = StoreViewMut {
+        state: Outstanding::new(),
+        numbers: &mut numbers,
+        lengths: &mut payload_lengths,
+        packets: &mut packets,
+    };
+    match writer::consume_data_into(&mut store, queue, next_packet_num, ids, out) {
+        Ok(packed) => print_packed(replay, packed)?,
+        Err(refusal) => replay.begin_line(refusal.number() as u64)?,
     }
-    recorded::print_number(output, recorded::sum_of(out))
+    replay.print_number(recorded::sum_of(out))
 }
 
-fn pack(input: &mut impl Read, output: &mut impl Write, bytes: &[u8]) -> io::Result<()> {
-    let next_packet_num = recorded::read_word(input)?;
-    let src_conn_id = recorded::read_u32(input)?;
-    let dst_conn_id = recorded::read_u32(input)?;
+fn pack(replay: &mut Replay<impl Read, impl Write>, bytes: &[u8]) -> io::Result<()> {
+    let next_packet_num = replay.read_word()?;
+    let ids = ConnectionIds {
+        source: replay.read_u32()?,
+        destination: replay.read_u32()?,
+    };
     let mut out = [BEFORE; OUT_LEN];
-    let room = recorded::read_length(input, &out)?;
-    let total = recorded::read_length(input, bytes)?;
+    let room = replay.read_length(&out)?;
+    let total = replay.read_length(bytes)?;
     let mut lengths = [0u32; MOST_ENTRIES];
-    let entries = read_entries(input, &mut lengths)?;
-    pack_into(
-        output,
-        next_packet_num,
-        src_conn_id,
-        dst_conn_id,
-        &mut out[..room],
-        &bytes[..total],
-        &lengths[..entries],
-    )
+    let entries = read_entries(replay, &mut lengths)?;
+    let queue = Queue {
+        bytes: &bytes[..total],
+        lengths: &lengths[..entries],
+    };
+    pack_into(replay, next_packet_num, ids, &mut out[..room], &queue)
 }
 
-fn count(input: &mut impl Read, output: &mut impl Write) -> io::Result<()> {
+fn count(replay: &mut Replay<impl Read, impl Write>) -> io::Result<()> {
     let mut buf = [0u8; 512];
-    let n = recorded::read_bytes(input, &mut buf)?;
-    recorded::begin_line(output, 0)?;
-    recorded::print_number(output, writer::payload_bytes_in_datagram(&buf[..n]) as u64)
-}
-
-fn answer(input: &mut impl Read, output: &mut impl Write, bytes: &[u8]) -> io::Result<()> {
-    let command = recorded::read_word(input)?;
-    match command {
-        1 => pack(input, output, bytes)?,
-        _ => count(input, output)?,
-    }
-    recorded::end_line(output)
-}
-
-fn answer_all(input: &mut impl Read, output: &mut impl Write, bytes: &[u8]) -> io::Result<()> {
-    let commands = recorded::read_word(input)?;
-    let mut i = 0;
-    while i < commands {
-        answer(input, output, bytes)?;
-        i += 1;
-    }
-    Ok(())
+    let n = replay.read_bytes(&mut buf)?;
+    replay.begin_line(0)?;
+    replay.print_number(writer::payload_bytes_in_datagram(&buf[..n]) as u64)
 }
 
 fn main(rt: HostRuntime) -> io::Result<()> {
-    let mut input = BufReader::new(rt.alloc(), rt.reader())?;
-    let mut output = BufWriter::new(rt.alloc(), io::writer(&rt))?;
     let mut bytes = [0u8; QUEUE_LEN];
     fill_queue(&mut bytes);
-    answer_all(&mut input, &mut output, &bytes)?;
-    output.flush()
+    recorded::answer_each(&rt, |command, replay| match command {
+        1 => pack(replay, &bytes),
+        _ => count(replay),
+    })
 }
