@@ -1,51 +1,53 @@
--- An index that `from_bytes` has filled can be printed: it lists the datagram's packets, and each lies within the datagram. Assumes nothing.
-use Prim.Native.Nat.{ℕ, zero, suc, ◌+◌, ◌*◌, ◌<◌, ◌≤◌}
-use mathlib.Core.Path.{◌≡◌, refl, sym, ap, ◌∙◌}
-use mathlib.Core.List.{List, [], ◌∷◌, ◌++◌}
-use native.Mathlib.Omega.{arith}
-use lib.ListN.{length, get_or}
-use lib.Seq.{sets-eq, take_all}
+-- The cells of a parsed datagram's index, one packet's after another. Assumes nothing.
+use Rattle.std.proofs.Common.{ℕ, zero, suc, ◌+◌, ◌*◌, ◌<◌, ◌≤◌, ◌≡◌, List, [], ◌∷◌, ◌++◌, length, get_or, take, drop, sym, ap, ◌∙◌, arith}
 use Rattle.refusal.specs.Said.{Said, answers}
-use Rattle.packet.specs.declared.Parsed.{Parsed}
-use Rattle.packet.specs.declared.Parsed.TheVariants.{Packets}
-use Rattle.packet.specs.Datagram.{cells_in, flat, packets_of, parsed, parses, parsed_says, Listed}
-use Rattle.packet.proofs.Index.{answered_all, lists_parsed}
-use Rattle.listing.specs.Cells.{ListsAll}
+use Rattle.packet.specs.Datagram.{cells_in, packets_of, flat, parsed, parses}
+use Rattle.packet.proofs.Index.{cell_within, lists_parsed, cells_parsed}
+use Rattle.listing.specs.Cells.{IsPacket}
 
-length-flat : (cs : List (ℕ × ℕ)) → length (flat cs) ≡ 2 * length cs
+-- two numbers in front of cells that were those of the packets from the i-th on
+record Turn (cs : List (ℕ × ℕ)) (i : ℕ) (cell rest : List ℕ) : Type 0 where
+  here : i < length cs
+  is : (d : ℕ × ℕ) → ◌≡◌ {A = ℕ × ℕ} (get_or cs i d) (get_or cell 0 0, get_or cell 1 0)
+  behind : rest ≡ flat (drop (i + 1) cs)
+
+turn : (cs : List (ℕ × ℕ)) (i : ℕ) (cell rest : List ℕ) → flat (drop i cs) ≡ cell ++ rest → length cell ≡ 2 → Turn cs i cell rest
 unfolding flat
-length-flat [] = refl
-length-flat (c ∷ cs) = rw (length-flat cs) (omega arith)
+turn cs i [] rest e long = absurd (omega arith)
+turn cs i (a ∷ []) rest e long = absurd (omega arith)
+turn cs i (a ∷ b ∷ x ∷ xs) rest e long = absurd (omega arith)
+turn [] zero (a ∷ b ∷ []) rest e long = cc
+turn [] (suc i) (a ∷ b ∷ []) rest e long = cc
+turn ((o, n) ∷ cs) zero (a ∷ b ∷ []) rest e long = record { here = omega arith; is = λ d. cc; behind = cc }
+turn ((o, n) ∷ cs) (suc i) (a ∷ b ∷ []) rest e long =
+    let t = turn cs i (a ∷ b ∷ []) rest e long in
+    let next : suc i + 1 ≡ suc (i + 1) = omega arith in
+    record { here = omega (arith, t.here); is = t.is; behind = rw next t.behind }
 
--- the numbers of a cell stand where the code looks for them
-flat_at : (cs : List (ℕ × ℕ)) (rest : List ℕ) (i : ℕ) → i < length cs
-    → ◌≡◌ {A = ℕ × ℕ} (get_or (flat cs ++ rest) (2 * i) 0, get_or (flat cs ++ rest) (2 * i + 1) 0) (get_or cs i (0, 0))
-unfolding flat
-flat_at [] rest i h = absurd (omega arith)
-flat_at (c ∷ cs) rest zero h = refl
-flat_at (c ∷ cs) rest (suc i) h =
-    let second : 2 * suc i + 1 ≡ suc (suc (2 * i + 1)) = omega arith in
-    let first : 2 * suc i ≡ suc (suc (2 * i)) = omega arith in
-    rw (second, first) (flat_at cs rest i (omega arith))
+-- the next cell is that of a packet of the datagram, which lies within it
+pub record NextCell (s : List ℕ) (i : ℕ) (cell rest : List ℕ) : Type 0 where
+  pub packet : IsPacket s (get_or cell 0 0) (get_or cell 1 0)
+  pub within : get_or cell 0 0 + 20 ≤ length s
+  pub behind : rest ≡ flat (drop (i + 1) (packets_of s).cells)
 
-lists_all_parsed : (s index : List ℕ) {n : ℕ} → parsed s (cells_in index) ≡ answers n → ListsAll s (parses s index).1 n
-lists_all_parsed s index {n} said =
-    let a = answered_all s (cells_in index) n said in
+pub next_cell : (s : List ℕ) (i : ℕ) {size : ℕ} {cells cell rest : List ℕ} → size ≡ 2 → cells ≡ flat (drop i (packets_of s).cells) → cells ≡ cell ++ rest → length cell ≡ size
+    → NextCell s i cell rest
+next_cell s i {cell = cell} {rest = rest} two all front long =
     let cs = (packets_of s).cells in
-    let taken = take_all (cells_in index) cs (omega (arith, a.all, a.fits)) in
-    let fits : 0 + length (flat cs) ≤ length index = omega (arith, length-flat cs, a.all, a.fits) in
-    rw (said, taken, sets-eq (flat cs) index 0 fits)
-    (record { all = a.all; each = λ i h. flat_at cs _ i (omega (arith, a.all)) })
+    let c : ℕ × ℕ = (get_or cell 0 0, get_or cell 1 0) in
+    let t = turn cs i cell rest (sym all ∙ front) (long ∙ two) in
+    record { packet = (i, t.here, t.is c); within = let w = rw (t.is c) at (cell_within s c i t.here) in omega arith; behind = t.behind }
 
-module _ (s index after : List ℕ) {r : Parsed} {n : ℕ} (e : ◌≡◌ {A = Said ℕ × List ℕ} (parsed_says r, after) (parses s index)) (q : r ≡ Packets n) where
+-- what `from_bytes` leaves in the index where it answers n: the cells of all packets, from the index's start
+module _ (s index after : List ℕ) (n : ℕ) (e : ◌≡◌ {A = Said ℕ × List ℕ} (answers n, after) (parses s index)) where
   said : parsed s (cells_in index) ≡ answers n
-  said = sym (ap (λ (x : Said ℕ × List ℕ). x.0) e) ∙ ap parsed_says q
+  said = sym (ap (λ (x : Said ℕ × List ℕ). x.0) e)
 
   left : after ≡ (parses s index).1
   left = ap (λ (x : Said ℕ × List ℕ). x.1) e
 
-  pub lists : Listed s after n
-  lists = rw left (lists_parsed s index said)
+  pub room : 2 * n ≤ length after
+  room = rw left (lists_parsed s index said).cells
 
-  pub lists_all : ListsAll s after n
-  lists_all = rw left (lists_all_parsed s index said)
+  pub cells : take (2 * n) after ≡ flat (packets_of s).cells
+  cells = rw left (cells_parsed s index said)

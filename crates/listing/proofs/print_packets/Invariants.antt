@@ -1,9 +1,12 @@
--- `listing::print_packets` is safe and ends: the cells read are there, and the measure is the number of packets left.
-use Rattle.std.proofs.Common.{◌-◌, ◌≤◌}
+-- The cells that are left are those of the packets from the next one on.
+use Rattle.std.proofs.Common.{◌≡◌, length, drop}
+use Rattle.std.specs.Slice.Iter.{chunks_exact_rest, chunks_exact_size}
+use Rattle.packet.specs.Datagram.{packets_of, flat}
 use Rattle.listing.proofs.print_packets.Given as goal
 
-abbrev pub invariant-loop-i : goal.invariant-loop-i
-invariant-loop-i g l = l.i ≤ l.n
-
-abbrev pub decreases-loop-i : goal.decreases-loop-i
-decreases-loop-i g l = l.n - l.i
+abbrev pub invariant-loop-cell : goal.invariant-loop-cell
+invariant-loop-cell g l =
+    (goal.iterator-loop-cell g).can_next l.cell-iterator
+    × (goal.iterator-loop-cell g).is_finite l.cell-iterator
+    × (chunks_exact_size l.cell-iterator ≡ 2)
+    × (chunks_exact_rest l.cell-iterator ≡ flat (drop (length l.yielded) (packets_of l.datagram).cells))
