@@ -19,10 +19,6 @@ const STORE_LEN: usize = (SLOTS + 1) * WIDTH;
 // What output bytes hold before a read.
 const BEFORE: u8 = 9;
 
-fn class(r: Refusal) -> u64 {
-    u64::from(r.number())
-}
-
 // Takes the state that a call gives; where it refuses, the buffer stays.
 fn take_state(
     replay: &mut Replay<impl Read, impl Write>,
@@ -34,7 +30,7 @@ fn take_state(
             buffer.state = state;
             replay.begin_line(0)
         }
-        Err(r) => replay.begin_line(class(r)),
+        Err(r) => replay.begin_line(u64::from(r.number())),
     }
 }
 
@@ -71,7 +67,7 @@ fn accept_one(buffer: &mut BufferViewMut<'_>, n: u64, payload: &mut [u8]) -> u64
     fill_payload(n, payload);
     match buffer.buffer_in_packet(n, payload) {
         Ok(()) => 0,
-        Err(error) => class(error.refusal()),
+        Err(error) => u64::from(error.refusal().number()),
     }
 }
 
@@ -106,7 +102,7 @@ fn accept_run(
 fn peek(replay: &mut Replay<impl Read, impl Write>, buffer: BufferView<'_>) -> io::Result<()> {
     match buffer.peek() {
         Ok(()) => replay.begin_line(0),
-        Err(r) => replay.begin_line(class(r)),
+        Err(r) => replay.begin_line(u64::from(r.number())),
     }
 }
 
@@ -146,7 +142,7 @@ fn consume(
     let out = &mut buf[..len];
     match buffer.consume(len, out) {
         Ok(result) => print_result(replay, result)?,
-        Err(r) => replay.begin_line(class(r))?,
+        Err(r) => replay.begin_line(u64::from(r.number()))?,
     }
     replay.print_number(recorded::sum_of(out))
 }
@@ -178,7 +174,7 @@ fn consume_bytes(
             replay.print_number(add_part(0, &buf, 0, result.bytes_consumed as usize))
         }
         Err(r) => {
-            replay.begin_line(class(r))?;
+            replay.begin_line(u64::from(r.number()))?;
             print_pieces(replay, &list, 0)?;
             replay.print_number(0)
         }
