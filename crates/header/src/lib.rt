@@ -11,6 +11,9 @@ ghost use Rattle.header.specs.Header.{serialises_security, deserialises_security
 
 use refusal::{ReadError, Refusal};
 
+// The bytes of a header.
+pub const HEADER_SIZE: usize = 20;
+
 #[derive(Clone, Copy, Debug, PartialEq, Eq)]
 pub enum PacketType {
     UnencryptedClientHello = 0,
@@ -277,11 +280,11 @@ impl BluefinHeader {
         if self.fields_too_large() {
             return Err(Refusal::OutOfRange);
         }
-        if buf.len() < 20 {
+        if buf.len() < HEADER_SIZE {
             return Err(Refusal::BufferShort);
         }
         self.serialise_at_unchecked(buf, 0);
-        Ok(20)
+        Ok(HEADER_SIZE)
     }
 
     // The header in the 20 bytes from `at` on, which the caller has checked to be there.
@@ -309,7 +312,7 @@ impl BluefinHeader {
     pub fn deserialise(bytes: &[u8]) -> Result<Self, ReadError>
         ensures { read_says (λ h. h) result ≡ deserialises bytes.now }
     {
-        if bytes.len() != 20 {
+        if bytes.len() != HEADER_SIZE {
             return Err(ReadError::at(Refusal::Short, 0));
         }
         Self::deserialise_at_unchecked(bytes, 0)

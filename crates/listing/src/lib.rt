@@ -16,9 +16,6 @@ use std::io::{self, Read, Write};
 // One byte more than the longest datagram, so that a longer one is seen to be too long.
 const READ_LEN: usize = packet::READING_LIMIT + 1;
 
-// Two numbers for each packet of 20 bytes that the longest datagram holds.
-const INDEX_LEN: usize = packet::READING_LIMIT / 20 * 2;
-
 // The datagram that the input has: all its bytes, to the end. What `copy` promises does not bound its count, so the buffer's length does.
 pub fn print_from(input: &mut impl Read, output: &mut impl Write) -> io::Result<()> {
     let mut bytes = [0u8; READ_LEN];
@@ -28,7 +25,7 @@ pub fn print_from(input: &mut impl Read, output: &mut impl Write) -> io::Result<
 
 // Nothing is printed before the whole datagram is parsed. Refusals 10 and 11 have no cursor, and are printed with 0.
 fn print_datagram(output: &mut impl Write, datagram: &[u8]) -> io::Result<()> {
-    let mut index = [0u32; INDEX_LEN];
+    let mut index = [0u32; packet::INDEX_LEN];
     match packet::from_bytes(datagram, &mut index) {
         Ok(n) => print_packets(output, datagram, &index[..2 * n]),
         Err(e) => writeln!(output, "{e}"),

@@ -8,11 +8,11 @@ ghost use Rattle.refusal.specs.Said.{Said, says};
 ghost use Rattle.net.specs.Hello.{is_hello, is_client_ack};
 ghost use Rattle.net.specs.Control.{header_alone, writes_control, writes_fin, writes_fin_ack};
 
-use header::{BluefinHeader, BluefinSecurityFields, PacketType};
+use header::{BluefinHeader, BluefinSecurityFields, HEADER_SIZE, PacketType};
 use refusal::Refusal;
 
 // net/mod.rs, the sizes of document 01: a header of 20 bytes, payloads of up to 1,500, ten packets in a datagram, and so up to 15,200 bytes.
-pub const BLUEFIN_HEADER_SIZE_BYTES: usize = 20;
+pub const BLUEFIN_HEADER_SIZE_BYTES: usize = HEADER_SIZE;
 
 pub const MAX_BLUEFIN_PAYLOAD_SIZE_BYTES: usize = 1500;
 

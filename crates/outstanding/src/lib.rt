@@ -11,18 +11,17 @@ ghost use Rattle.packet.specs.Sizes.{payload_size};
 ghost use Rattle.outstanding.specs.Outstanding.{Store, store_in, store_now, SameLent, fresh, numbers_of, lengths_of, size, roomy, well_formed, well_formed_below, listing, up_to, without, answering};
 ghost use Rattle.outstanding.specs.Steps.{counting, sizes_for, kept_as};
 
+use header::HEADER_SIZE;
 use lists::longest;
 use refusal::Refusal;
 
 // The most packets that are kept.
 pub const PLACES: usize = 64;
 
-const HEADER_SIZE: usize = 20;
-
-const PAYLOAD_SIZE: usize = 1500;
+const PAYLOAD_SIZE: usize = net::MAX_BLUEFIN_PAYLOAD_SIZE_BYTES;
 
 // A packet with the longest payload.
-const PACKET_SIZE: usize = HEADER_SIZE + PAYLOAD_SIZE;
+pub const PACKET_SIZE: usize = HEADER_SIZE + PAYLOAD_SIZE;
 
 // How many packets are kept: all of the store that is not lent.
 #[repr(C)]

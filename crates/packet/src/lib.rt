@@ -3,12 +3,12 @@
 // Proved: what each call says and leaves in lent memory is the definition's, on every input; written packets are read back (proofs/Trip.antt).
 #![tactic(auto)]
 
-ghost use Rattle.std.specs.Prelude.{◌≡◌, List, ℕ, ◌+◌, length};
+ghost use Rattle.std.specs.Prelude.{◌≡◌, List, ℕ, ◌+◌, Err, length};
 ghost use Rattle.refusal.specs.Said.{Said, says, read_says};
 ghost use Rattle.packet.specs.Packet.{serialises_into, deserialises, payload_of};
 ghost use Rattle.packet.specs.Datagram.{parses, parses_into, indexes};
 
-use header::BluefinHeader;
+use header::{BluefinHeader, HEADER_SIZE};
 use parse::Packets;
 use refusal::{ReadError, Refusal};
 
@@ -17,11 +17,14 @@ mod parse;
 // The longest datagram that is read, document 02 §1: IPv4's total length of 65,535, less 20 bytes of its own header and 8 of UDP's.
 pub const READING_LIMIT: usize = 65507;
 
+// Two numbers for each packet that the longest datagram holds.
+pub const INDEX_LEN: usize = READING_LIMIT / HEADER_SIZE * 2;
+
 // core/packet.rs, `BluefinPacket::len`.
 pub fn len(payload: &[u8]) -> usize
     ensures { result ≡ 20 + length payload.now }
 {
-    20 + payload.len()
+    HEADER_SIZE + payload.len()
 }
 
 // core/packet.rs, `BluefinPacket::serialise_into`. Answers the bytes written.
@@ -40,7 +43,7 @@ pub fn serialise_into(
         return Err(Refusal::BufferShort);
     }
     header.serialise_at_unchecked(buf, 0);
-    parts::put(payload, buf, 20);
+    parts::put(payload, buf, HEADER_SIZE);
     Ok(total)
 }
 
@@ -48,7 +51,7 @@ pub fn serialise_into(
 pub fn deserialise(bytes: &[u8]) -> Result<BluefinHeader, ReadError>
     ensures { read_says (λ h. h) result ≡ deserialises bytes.now }
 {
-    if bytes.len() < 20 {
+    if bytes.len() < HEADER_SIZE {
         return Err(ReadError::at(Refusal::Short, 0));
     }
     BluefinHeader::deserialise_at_unchecked(bytes, 0)
@@ -58,7 +61,7 @@ pub fn deserialise(bytes: &[u8]) -> Result<BluefinHeader, ReadError>
 pub fn payload_of(bytes: &[u8]) -> &[u8]
     ensures { result.now ≡ payload_of bytes.now }
 {
-    &bytes[bytes.len().min(20)..]
+    &bytes[bytes.len().min(HEADER_SIZE)..]
 }
 
 // What `from_bytes_into` answers, and how many packets stand in the index, refused or not.
@@ -68,11 +71,23 @@ pub struct Indexed {
     pub cells: usize,
 }
 
+// Refused before any packet was met.
+impl From<ReadError> for Indexed {
+    ghost from_gives = { λ e indexed. indexed ≡ record { answer = Err e; cells = 0 } };
+
+    fn from(error: ReadError) -> Self {
+        Self {
+            answer: Err(error),
+            cells: 0,
+        }
+    }
+}
+
 // One pass, so that what was met before a refusal stands in the index.
 pub fn index_packets(datagram: &[u8], index: &mut [u32]) -> Indexed
     ensures { ◌≡◌ {A = Said ℕ × List ℕ × ℕ} (read_says (λ n. n) result.answer, index.new, result.cells) (indexes datagram.now index.old) }
 {
-    match Packets::of(datagram, index.len() / 2) {
+    match Packets::new(datagram, index.len() / 2) {
         Ok(mut packets) => {
             let answer = packets.write_cells(index);
             Indexed {
@@ -80,10 +95,7 @@ pub fn index_packets(datagram: &[u8], index: &mut [u32]) -> Indexed
                 cells: packets.met,
             }
         }
-        Err(e) => Indexed {
-            answer: Err(e),
-            cells: 0,
-        },
+        Err(error) => error.into(),
     }
 }
 
@@ -98,7 +110,7 @@ pub fn from_bytes_into(datagram: &[u8], index: &mut [u32]) -> Result<usize, Read
 pub fn from_bytes(datagram: &[u8], index: &mut [u32]) -> Result<usize, ReadError>
     ensures { ◌≡◌ {A = Said ℕ × List ℕ} (read_says (λ n. n) result, index.new) (parses datagram.now index.old) }
 {
-    let mut packets = Packets::of(datagram, index.len() / 2)?;
+    let mut packets = Packets::new(datagram, index.len() / 2)?;
     while let Some(_) = packets.next_packet()? {}
     from_bytes_into(datagram, index)
 }

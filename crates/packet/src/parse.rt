@@ -5,7 +5,7 @@ ghost use Rattle.refusal.specs.Said.{Said, read_says};
 ghost use Rattle.header.specs.Types.{TypeTable};
 
 use crate::READING_LIMIT;
-use header::TypeRow;
+use header::{HEADER_SIZE, TypeRow};
 use refusal::{ReadError, Refusal};
 
 // The packets of a datagram, of which `met` lie before the cursor `at`, where the index has `room` cells.
@@ -27,13 +27,13 @@ impl<'a> Packets<'a> {
     ghost use Rattle.packet.specs.Step.{look_at, Begun, Stepped, left};
 
     // At the first packet; or refusal 11 or 1, of the datagram as a whole.
-    pub fn of(datagram: &'a [u8], room: usize) -> Result<Self, ReadError>
+    pub fn new(datagram: &'a [u8], room: usize) -> Result<Self, ReadError>
         ensures { Begun datagram.now room result }
     {
         if datagram.len() > READING_LIMIT {
             return Err(Refusal::OutOfRange.into());
         }
-        if datagram.len() < 20 {
+        if datagram.len() < HEADER_SIZE {
             return Err(ReadError::at(Refusal::Short, 0));
         }
         Ok(Self {
@@ -56,7 +56,7 @@ impl<'a> Packets<'a> {
         if left == 0 {
             return Ok(None);
         }
-        if left < 20 {
+        if left < HEADER_SIZE {
             return Err(Refusal::Tail);
         }
         let number = header::type_at_unchecked(self.datagram, self.at);
@@ -84,7 +84,7 @@ impl<'a> Packets<'a> {
                 if self.met >= self.room {
                     return Err(Refusal::BufferShort.into());
                 }
-                self.at = at + 20 + payload;
+                self.at = at + HEADER_SIZE + payload;
                 self.met += 1;
                 Ok(Some((at, payload)))
             }

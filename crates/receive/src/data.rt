@@ -11,6 +11,7 @@ ghost use Rattle.ordered_bytes.specs.Buffer.{Buffer, buffer_now, well_formed, Sa
 ghost use Rattle.receive.specs.Datagram.{accepts};
 
 use crate::receiver::Receiver;
+use header::HEADER_SIZE;
 use ordered_bytes::BufferViewMut;
 use refusal::Refusal;
 
@@ -50,7 +51,7 @@ impl Receiver for BufferViewMut<'_> {
         ensures value { (says (λ x. x) result, buffer_now self.new) ≡ accepts (buffer_now self.old) (packet_at datagram.now (at, len)) }
     {
         let number = header::number_at_unchecked(datagram, at);
-        let begin = at + 20;
+        let begin = at + HEADER_SIZE;
         self.buffer_in_packet_unchecked(number, &datagram[begin..begin + len])
             .map_err(|error| error.refusal())
     }

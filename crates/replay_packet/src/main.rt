@@ -11,30 +11,20 @@ use std::io::{self, Read, Write};
 // No offset and no length: a cell that holds it was not written.
 const UNWRITTEN: u32 = 0xffff_ffff;
 
-// Two numbers for each packet of 20 bytes that the longest datagram holds.
-const INDEX_LEN: usize = packet::READING_LIMIT / 20 * 2;
-
-fn kind(parsed: Result<usize, ReadError>) -> u64 {
+// A parse as it is recorded: its kind, and the number of packets or the cursor.
+fn recorded_as(parsed: Result<usize, ReadError>) -> (u64, u64) {
     match parsed {
-        Ok(_) => 0,
-        Err(e) => e.refusal.number() as u64,
-    }
-}
-
-// The number of packets, or the cursor.
-fn count_or_cursor(parsed: Result<usize, ReadError>) -> u64 {
-    match parsed {
-        Ok(n) => n as u64,
-        Err(e) => e.cursor.unwrap_or(0) as u64,
+        Ok(n) => (0, n as u64),
+        Err(e) => (e.refusal.number() as u64, e.cursor.unwrap_or(0) as u64),
     }
 }
 
 fn print_parsed(
     replay: &mut Replay<impl Read, impl Write>,
-    parsed: Result<usize, ReadError>,
+    number: u64,
     index: &[u32],
 ) -> io::Result<()> {
-    replay.print_number(count_or_cursor(parsed))?;
+    replay.print_number(number)?;
     for cell in index.iter().take_while(|cell| **cell != UNWRITTEN) {
         write!(replay.answers, " {cell}")?;
     }
@@ -42,17 +32,17 @@ fn print_parsed(
 }
 
 fn parse(replay: &mut Replay<impl Read, impl Write>, datagram: &[u8]) -> io::Result<()> {
-    let mut index = [UNWRITTEN; INDEX_LEN];
-    let parsed = packet::from_bytes(datagram, &mut index);
-    replay.begin_line(kind(parsed))?;
-    print_parsed(replay, parsed, &index)
+    let mut index = [UNWRITTEN; packet::INDEX_LEN];
+    let (kind, number) = recorded_as(packet::from_bytes(datagram, &mut index));
+    replay.begin_line(kind)?;
+    print_parsed(replay, number, &index)
 }
 
 fn parse_into(replay: &mut Replay<impl Read, impl Write>, datagram: &[u8]) -> io::Result<()> {
-    let mut index = [UNWRITTEN; INDEX_LEN];
-    let parsed = packet::from_bytes_into(datagram, &mut index);
-    replay.print_number(kind(parsed))?;
-    print_parsed(replay, parsed, &index)
+    let mut index = [UNWRITTEN; packet::INDEX_LEN];
+    let (kind, number) = recorded_as(packet::from_bytes_into(datagram, &mut index));
+    replay.print_number(kind)?;
+    print_parsed(replay, number, &index)
 }
 
 fn parse_both(replay: &mut Replay<impl Read, impl Write>) -> io::Result<()> {

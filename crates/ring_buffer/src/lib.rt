@@ -71,7 +71,7 @@ impl RingBuffer {
     }
 
     // The test of refusal 12.
-    pub fn is_well_formed(self, capacity: usize) -> bool
+    pub fn well_formed(self, capacity: usize) -> bool
         ensures { result ≡ well_formed self capacity }
     {
         if self.len > capacity {
@@ -87,7 +87,7 @@ impl RingBuffer {
     pub fn len(self, capacity: usize) -> Result<usize, Refusal>
         ensures { says (λ n. n) result ≡ len_of self capacity }
     {
-        if !self.is_well_formed(capacity) {
+        if !self.well_formed(capacity) {
             return Err(Refusal::Malformed);
         }
         Ok(self.len)

@@ -40,7 +40,7 @@ impl RttEstimator {
         Self::default()
     }
 
-    fn is_well_formed(&self) -> bool
+    fn well_formed(&self) -> bool
         ensures { result ≡ well_formed self.now }
     {
         self.smoothed <= LARGEST_SMOOTHED && self.variation <= LARGEST_VARIATION
@@ -73,7 +73,7 @@ impl RttEstimator {
         if micros > LONGEST_SAMPLE {
             return Err(Refusal::SampleTooLong);
         }
-        if !self.is_well_formed() {
+        if !self.well_formed() {
             return Err(Refusal::Malformed);
         }
         self.take_sample(micros);
@@ -85,7 +85,7 @@ impl RttEstimator {
     pub fn wait_time(&self) -> Result<u64, Refusal>
         ensures { says (λ x. x) result ≡ waiting self.now }
     {
-        if !self.is_well_formed() {
+        if !self.well_formed() {
             return Err(Refusal::Malformed);
         }
         if !self.sampled {

@@ -10,7 +10,7 @@ ghost use Rattle.ring_buffer.specs.Ring.{well_formed, contents};
 ghost use Rattle.ring_buffer.specs.Views.{SameLent};
 ghost use Rattle.writer.specs.Acks.{ack_header, any_too_large, leaving, consumes_acks};
 
-use header::{BluefinHeader, BluefinSecurityFields, PacketType};
+use header::{BluefinHeader, BluefinSecurityFields, HEADER_SIZE, PacketType};
 use net::ConnectionIds;
 use refusal::Refusal;
 use ring_buffer::{AckData, RingView, RingViewMut};
@@ -26,7 +26,7 @@ pub struct AcksPacked {
 const LARGEST_COUNT: u32 = u16::MAX as u32;
 
 // An ack is sent as a header alone.
-const ACK_SIZE: usize = net::BLUEFIN_HEADER_SIZE_BYTES;
+const ACK_SIZE: usize = HEADER_SIZE;
 
 // Whether there is a count too large among the k acks in front.
 fn any_too_large(ring: &RingView, k: usize) -> bool
@@ -69,7 +69,7 @@ pub fn consume_acks_into(
         ≡ consumes_acks ring.old.state ring.old.records.now used ids.source ids.destination out.old }
 {
     let queued = ring.state.len;
-    if !ring.state.is_well_formed(ring.records.len()) || out.len() < used {
+    if !ring.state.well_formed(ring.records.len()) || out.len() < used {
         return Err(Refusal::Malformed);
     }
     let fitting = net::MAX_BLUEFIN_BYTES_IN_UDP_DATAGRAM.saturating_sub(used) / ACK_SIZE;

@@ -15,19 +15,14 @@ ghost use Rattle.writer.specs.Empty.{packs_empty, sending_empty_of};
 ghost use Rattle.writer.specs.PayloadBytes.{payload_bytes};
 ghost use Rattle.writer.specs.Reserve.{reserving};
 
-use header::{BluefinHeader, BluefinSecurityFields, PacketType};
+use header::{BluefinHeader, BluefinSecurityFields, HEADER_SIZE, PacketType};
 use net::ConnectionIds;
-use outstanding::{PLACES, StoreViewMut};
+use outstanding::{PACKET_SIZE, PLACES, StoreViewMut};
 use refusal::Refusal;
 
 pub mod acks;
 
-const HEADER_SIZE: usize = net::BLUEFIN_HEADER_SIZE_BYTES;
-
 const PAYLOAD_SIZE: usize = net::MAX_BLUEFIN_PAYLOAD_SIZE_BYTES;
-
-// A packet with the longest payload.
-const PACKET_SIZE: usize = HEADER_SIZE + PAYLOAD_SIZE;
 
 // The payload bytes of a full datagram: its 15,200 bytes less ten headers.
 const BYTE_LIMIT: usize = net::MAX_BLUEFIN_PACKETS_IN_UDP_DATAGRAM * PAYLOAD_SIZE;

@@ -9,7 +9,7 @@ use Rattle.writer.proofs.acks.consume_acks_into.Goals as goal
 pub loop-i-init : goal.loop-i-init
 loop-i-init c =
     let v = c.args.ring.now in record {
-      popped = none_popped v (sym c.if-not-is_well_formed.ensures);
+      popped = none_popped v (sym c.if-not-well_formed.ensures);
       out = written_none v.state v.records.now c.args.used c.args.ids.source c.args.ids.destination c.args.out.now;
     }
 
