@@ -78,7 +78,7 @@ pub extern "C" fn bluefin_ordered_bytes_peek(
         lengths,
         store,
     };
-    flat::buffer::peeked_of(buffer.peek())
+    refusal::refusal_in(buffer.peek())
 }
 
 #[unsafe(no_mangle)]

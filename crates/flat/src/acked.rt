@@ -19,11 +19,10 @@ impl Inserted {
     pub fn new(window: SlidingWindow, answer: Result<(), Refusal>) -> Self
         ensures { result ≡ inserted_of (says (λ x. x) answer) window }
     {
-        let refusal = match answer {
-            Ok(()) => 0,
-            Err(refusal) => refusal.number(),
-        };
-        Self { window, refusal }
+        Self {
+            window,
+            refusal: refusal::refusal_in(answer),
+        }
     }
 }
 

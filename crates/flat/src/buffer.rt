@@ -1,7 +1,7 @@
 // The answers of crates/ordered_bytes as hosts have them: the state to go on with stands in each that may change it, refused or not.
 // Proved: each conversion is that of specs/Buffer.antt.
 ghost use Rattle.std.specs.Prelude.{◌≡◌};
-ghost use Rattle.refusal.specs.Said.{says, refusal_in};
+ghost use Rattle.refusal.specs.Said.{says};
 ghost use Rattle.ordered_bytes.specs.Calls.{accepted_says, accepted_ack, consumed_says, consumed_bytes_says};
 ghost use Rattle.flat.specs.Buffer.{no_buffer, started_of, accepted_of, consumed_of, consumed_bytes_of};
 
@@ -97,13 +97,6 @@ impl From<Result<(), AcceptError>> for Accepted {
             },
         }
     }
-}
-
-// A peek answers nothing but its refusal.
-pub fn peeked_of(answer: Result<(), Refusal>) -> u8
-    ensures { result ≡ refusal_in (says (λ u. u) answer) }
-{
-    answer.err().map_or(0, Refusal::number)
 }
 
 impl Consumed {

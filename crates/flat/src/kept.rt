@@ -46,7 +46,7 @@ impl Dropped {
     {
         Self {
             outstanding,
-            refusal: answer.err().map_or(0, Refusal::number),
+            refusal: refusal::refusal_in(answer),
         }
     }
 }

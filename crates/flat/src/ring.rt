@@ -95,7 +95,7 @@ impl Cleared {
     {
         Self {
             ring,
-            refusal: answer.err().map_or(0, Refusal::number),
+            refusal: refusal::refusal_in(answer),
         }
     }
 }

@@ -27,7 +27,7 @@ impl Sampled {
     {
         Self {
             estimator,
-            refusal: answer.err().map_or(0, Refusal::number),
+            refusal: refusal::refusal_in(answer),
         }
     }
 }

@@ -10,7 +10,7 @@ ghost use Rattle.packet.specs.Datagram.{packet_at, Listed};
 ghost use Rattle.receive.specs.Datagram.{progress, takes, takes_listed, takes_datagram, Leaves};
 
 use packet::Indexed;
-use refusal::Refusal;
+use refusal::{ReadError, Refusal};
 
 pub trait Receiver {
     ghost kind: { ℕ };
@@ -67,10 +67,8 @@ fn take_one<R: Receiver>(
     if header::type_at_unchecked(datagram, at) != R::packet_type() {
         return;
     }
-    answers[i] = match receiver.take_unchecked(datagram, at, len) {
-        Ok(()) => 0,
-        Err(refusal) => refusal.number(),
-    };
+    let taken = receiver.take_unchecked(datagram, at, len);
+    answers[i] = refusal::refusal_in(taken);
 }
 
 // The first n packets of the index. Each call keeps the state well formed, so that one test of refusal 12 stands for all of them.
@@ -111,16 +109,10 @@ pub fn receive_datagram<R: Receiver>(
         (R.state receiver.old) datagram.now index.old answers.old }
 {
     if !receiver.well_formed() {
-        return Indexed {
-            answer: Err(Refusal::Malformed.into()),
-            cells: 0,
-        };
+        return ReadError::from(Refusal::Malformed).into();
     }
     if answers.len() < index.len() / 2 {
-        return Indexed {
-            answer: Err(Refusal::BufferShort.into()),
-            cells: 0,
-        };
+        return ReadError::from(Refusal::BufferShort).into();
     }
     let indexed = packet::index_packets(datagram, index);
     take_listed(receiver, datagram, index, indexed.cells, answers);
