@@ -3,8 +3,10 @@
 // Left out: short buffers (10). The Rust has no such test, as it writes a header of its own.
 #![tactic(auto)]
 
+use header::BluefinHeader;
 use net::{BluefinHost, ConnectionIds};
 use recorded::Replay;
+use refusal::Refusal;
 use std::io::{self, Read, Write};
 
 fn read_host(replay: &mut Replay<impl Read, impl Write>) -> io::Result<BluefinHost> {
@@ -22,17 +24,17 @@ fn read_ids(replay: &mut Replay<impl Read, impl Write>) -> io::Result<Connection
     })
 }
 
-fn hello(replay: &mut Replay<impl Read, impl Write>, command: u64) -> io::Result<()> {
+fn test<F: FnOnce(BluefinHost, BluefinHeader) -> bool>(
+    replay: &mut Replay<impl Read, impl Write>,
+    is_met: F,
+) -> io::Result<()>
+    requires { F.IsAlwaysCallable is_met }
+{
     let host = read_host(replay)?;
     let packet_type = recorded_header::read_type(replay)?;
     let ids = read_ids(replay)?;
     let h = net::build_empty_encrypted_packet(ids, 0, packet_type);
-    let yes = if command == 1 {
-        net::is_hello_packet(host, h)
-    } else {
-        net::is_client_ack_packet(host, h)
-    };
-    replay.begin_line(yes as u64)
+    replay.begin_line(is_met(host, h) as u64)
 }
 
 // The payload's length comes first: a header alone has none.
@@ -46,23 +48,26 @@ fn build_empty(replay: &mut Replay<impl Read, impl Write>) -> io::Result<()> {
 }
 
 // The bytes written, and each of them.
-fn control(replay: &mut Replay<impl Read, impl Write>, command: u64) -> io::Result<()> {
+fn control<F: FnOnce(ConnectionIds, u64, &mut [u8]) -> Result<usize, Refusal>>(
+    replay: &mut Replay<impl Read, impl Write>,
+    write: F,
+) -> io::Result<()>
+    requires { F.IsAlwaysCallable write }
+{
     let ids = read_ids(replay)?;
     let number = replay.read_word()?;
     let mut buf = [9u8; net::BLUEFIN_HEADER_SIZE_BYTES];
-    let written = if command == 4 {
-        net::write_fin(ids, number, &mut buf)
-    } else {
-        net::write_fin_ack(ids, number, &mut buf)
-    };
+    let written = write(ids, number, &mut buf);
     replay.begin_line(written.unwrap_or(0) as u64)?;
     replay.print_bytes(&buf)
 }
 
 fn main(rt: HostRuntime) -> io::Result<()> {
     recorded::answer_each(&rt, |command, replay| match command {
-        1 | 2 => hello(replay, command),
+        1 => test(replay, net::is_hello_packet),
+        2 => test(replay, net::is_client_ack_packet),
         3 => build_empty(replay),
-        _ => control(replay, command),
+        4 => control(replay, net::write_fin),
+        _ => control(replay, net::write_fin_ack),
     })
 }
