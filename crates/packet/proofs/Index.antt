@@ -159,10 +159,6 @@ module _ (s : List ℕ) where
             ∙ get_or-take (cells_in index) (packets_of s).cells i (0, 0) (omega arith) in
             subst (Within s) (sym cell) (cell_within s (0, 0) i (omega arith))
 
--- the header of a listed packet lies within the datagram
-pub header_within : {s index : List ℕ} {n : ℕ} → Listed s index n → (i : ℕ) → i < n → get_or index (2 * i) 0 + 20 ≤ length s
-header_within l i h = omega (arith, l.within i h)
-
 -- where parsing answers a count, it is the count of all packets, each has its cell, and the walk came to the end
 pub record Answered (s : List ℕ) (room n : ℕ) : Type 0 where
   pub all : n ≡ length (packets_of s).cells

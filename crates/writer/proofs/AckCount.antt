@@ -1,14 +1,10 @@
--- How many acks are packed: no more than are queued, and no more than fit.
+-- How many acks are packed: no more than are queued.
 -- Assumes nothing.
 use Prim.Native.Nat.{ℕ, ◌≤◌}
 use native.Mathlib.Omega.{arith}
 use Rattle.ring_buffer.specs.declared.RingBuffer.{RingBuffer}
-use Rattle.writer.specs.Acks.{datagram_limit, ack_count}
+use Rattle.writer.specs.Acks.{ack_count}
 
 module _ (g : RingBuffer) (used : ℕ) where
   pub count_queued : ack_count g used ≤ g.len
   count_queued = omega arith
-
-  pub count_fits : ack_count g used ≤ 760
-  unfolding datagram_limit
-  count_fits = omega arith
