@@ -70,16 +70,7 @@ header_of source destination type field security =
 
 -- a header with another packet number
 abbrev pub with_number : BluefinHeader → ℕ → BluefinHeader
-with_number h n =
-    record {
-      version = h.version;
-      type_field = h.type_field;
-      type_specific_payload = h.type_specific_payload;
-      security_fields = h.security_fields;
-      source_connection_id = h.source_connection_id;
-      destination_connection_id = h.destination_connection_id;
-      packet_number = n;
-    }
+with_number h n = record h { packet_number = n }
 
 -- a header that is not encrypted, and has mask 0: every header that the link makes
 abbrev pub plain_header : ℕ → ℕ → PacketType → ℕ → ℕ → BluefinHeader

@@ -37,22 +37,22 @@ pub record SenderSide : Type 0 where
   pub closing : Bool
 
 abbrev pub with_queue : Queue → SenderSide → SenderSide
-with_queue q d = record { queue = q; next = d.next; kept = d.kept; queued = d.queued; made = d.made; closing = d.closing }
+with_queue q d = record d { queue = q }
 
 abbrev pub with_next : ℕ → SenderSide → SenderSide
-with_next n d = record { queue = d.queue; next = n; kept = d.kept; queued = d.queued; made = d.made; closing = d.closing }
+with_next n d = record d { next = n }
 
 abbrev pub with_kept : Store → SenderSide → SenderSide
-with_kept k d = record { queue = d.queue; next = d.next; kept = k; queued = d.queued; made = d.made; closing = d.closing }
+with_kept k d = record d { kept = k }
 
 abbrev pub with_queued : List ℕ → SenderSide → SenderSide
-with_queued bytes d = record { queue = d.queue; next = d.next; kept = d.kept; queued = bytes; made = d.made; closing = d.closing }
+with_queued bytes d = record d { queued = bytes }
 
 abbrev pub with_made : List Packet → SenderSide → SenderSide
-with_made packets d = record { queue = d.queue; next = d.next; kept = d.kept; queued = d.queued; made = packets; closing = d.closing }
+with_made packets d = record d { made = packets }
 
 abbrev pub with_closing : Bool → SenderSide → SenderSide
-with_closing c d = record { queue = d.queue; next = d.next; kept = d.kept; queued = d.queued; made = d.made; closing = c }
+with_closing c d = record d { closing = c }
 
 -- base and count of a read that took packets, or of a packet that accepting refused with 5
 pub record Ack : Type 0 where
@@ -68,19 +68,19 @@ pub record ReceiverSide : Type 0 where
   pub counted : ℕ
 
 abbrev pub with_buffer : Buffer → ReceiverSide → ReceiverSide
-with_buffer b d = record { buffer = b; accepted = d.accepted; delivered = d.delivered; acks = d.acks; counted = d.counted }
+with_buffer b d = record d { buffer = b }
 
 abbrev pub with_accepted : List ℕ → ReceiverSide → ReceiverSide
-with_accepted numbers d = record { buffer = d.buffer; accepted = numbers; delivered = d.delivered; acks = d.acks; counted = d.counted }
+with_accepted numbers d = record d { accepted = numbers }
 
 abbrev pub with_delivered : List ℕ → ReceiverSide → ReceiverSide
-with_delivered bytes d = record { buffer = d.buffer; accepted = d.accepted; delivered = bytes; acks = d.acks; counted = d.counted }
+with_delivered bytes d = record d { delivered = bytes }
 
 abbrev pub with_acks : List Ack → ReceiverSide → ReceiverSide
-with_acks given d = record { buffer = d.buffer; accepted = d.accepted; delivered = d.delivered; acks = given; counted = d.counted }
+with_acks given d = record d { acks = given }
 
 abbrev pub with_counted : ℕ → ReceiverSide → ReceiverSide
-with_counted k d = record { buffer = d.buffer; accepted = d.accepted; delivered = d.delivered; acks = d.acks; counted = k }
+with_counted k d = record d { counted = k }
 
 pub record WindowSide : Type 0 where
   pub state : SlidingWindow
@@ -91,13 +91,13 @@ pub record WindowSide : Type 0 where
 
 -- the window and its cells change together
 abbrev pub with_cells : SlidingWindow → List ℕ → WindowSide → WindowSide
-with_cells w cells d = record { state = w; cells = cells; entered = d.entered; expects = d.expects }
+with_cells w cells d = record d { state = w; cells = cells }
 
 abbrev pub with_entered : List ℕ → WindowSide → WindowSide
-with_entered numbers d = record { state = d.state; cells = d.cells; entered = numbers; expects = d.expects }
+with_entered numbers d = record d { entered = numbers }
 
 abbrev pub with_expects : ℕ → WindowSide → WindowSide
-with_expects n d = record { state = d.state; cells = d.cells; entered = d.entered; expects = n }
+with_expects n d = record d { expects = n }
 
 pub record Link : Type 0 where
   pub sender : SenderSide
@@ -107,16 +107,16 @@ pub record Link : Type 0 where
   pub trips : RttEstimator
 
 abbrev pub with_sender : SenderSide → Link → Link
-with_sender d l = record { sender = d; receiver = l.receiver; acked = l.acked; trips = l.trips }
+with_sender d l = record l { sender = d }
 
 abbrev pub with_receiver : ReceiverSide → Link → Link
-with_receiver d l = record { sender = l.sender; receiver = d; acked = l.acked; trips = l.trips }
+with_receiver d l = record l { receiver = d }
 
 abbrev pub with_window : WindowSide → Link → Link
-with_window d l = record { sender = l.sender; receiver = l.receiver; acked = d; trips = l.trips }
+with_window d l = record l { acked = d }
 
 abbrev pub with_trips : RttEstimator → Link → Link
-with_trips t l = record { sender = l.sender; receiver = l.receiver; acked = l.acked; trips = t }
+with_trips t l = record l { trips = t }
 
 -- the lent memory of a fresh link: the receive buffer's three lists, the window's cells, and the three lists of the packets kept
 pub record Memory : Type 0 where

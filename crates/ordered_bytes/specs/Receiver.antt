@@ -33,7 +33,7 @@ accept_checks r n payload =
     ∷ []
 
 abbrev pub accepted : Receiver → ℕ → List ℕ → Receiver
-accepted r n payload = record { front = r.front; width = r.width; held = set r.held (n - r.front) (some payload); carry = r.carry }
+accepted r n payload = record r { held = set r.held (n - r.front) (some payload) }
 
 -- ---- reading
 

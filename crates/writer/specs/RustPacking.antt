@@ -41,13 +41,7 @@ returned queue st = record {
 
 -- `running_payload = merged.freeze()`
 abbrev pub merge : List ℕ → State → State
-merge «data» st = record {
-  running_payload = st.running_payload ++ «data»;
-  bytes_remaining = st.bytes_remaining;
-  payload_bytes_packed = st.payload_bytes_packed;
-  next_packet_num = st.next_packet_num;
-  ans = st.ans;
-}
+merge «data» st = record st { running_payload = st.running_payload ++ «data» }
 
 -- `size` is the Rust's `MAX_BLUEFIN_PAYLOAD_SIZE_BYTES`
 module _ (size src dst : ℕ) where
