@@ -1,7 +1,7 @@
 /*
- * The Bluefin link for C: what crates/bluefin_c exports, proved.
+ * The Bluefin link for C: what crates/bluefin_c and, for the ring of acks, crates/bluefin_ring_c export, proved.
  *
- * Link target/staticlib/libbluefin_c.a, which hosts/archives makes, for x86-64 Linux only.
+ * Link libbluefin_c.a and libbluefin_ring_c.a of target/staticlib, which hosts/archives makes, for x86-64 Linux only.
  *
  * Memory. The library keeps none: every byte that it reads or writes is lent by the caller for the length of one call, and states are small
  * structs that go in by value and come back by value. A pointer is followed by the number of its elements; it may be NULL where that number
