@@ -1,6 +1,6 @@
 -- The index that is printed is the one that parsing filled. Assumes nothing.
 use Rattle.std.proofs.Common.{arith, replicate, length-take}
-use Rattle.listing.specs.declared.TheConstants.{INDEX_LEN}
+use Rattle.packet.specs.declared.TheConstants.{INDEX_LEN}
 use Rattle.listing.proofs.Lists.{room, cells}
 use Rattle.listing.proofs.print_datagram.Goals as goal
 

@@ -7,4 +7,4 @@ pub returns-in-Ok : goal.returns-in-Ok
 returns-in-Ok c = c.write_cells-answer.ensures ∙ c.in-Ok.ensures.2 _ ∙ out_all _ _
 
 pub returns-in-Err : goal.returns-in-Err
-returns-in-Err c = sym (c.in-Err.ensures _) ∙ out_all _ _
+returns-in-Err c = rw c.into.ensures (sym (c.in-Err.ensures _) ∙ out_all _ _)

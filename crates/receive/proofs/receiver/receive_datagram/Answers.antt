@@ -6,14 +6,14 @@ use Rattle.receive.proofs.receiver.receive_datagram.Goals as goal
 pub returns-then-not-well_formed-clause-value : goal.returns-then-not-well_formed-clause-value
 returns-then-not-well_formed-clause-value g c =
     let a = c.args in
-    rw c.into.ensures
+    rw (c.into.ensures, c.from.ensures)
     (whole-malformed g.R.Receiver.kind g.R.Receiver.call (g.R.Receiver.state a.receiver.now) a.datagram.now a.index.now a.answers.now
     (sym c.well_formed-2.ensures ∙ c.if-not-well_formed.true))
 
 pub returns-then-answers-index-clause-value : goal.returns-then-answers-index-clause-value
 returns-then-answers-index-clause-value g c =
     let a = c.args in
-    rw c.into-then-answers-index.ensures
+    rw (c.into-then-answers-index.ensures, c.from-then-answers-index.ensures)
     (whole_short g.R.Receiver.kind g.R.Receiver.call (g.R.Receiver.state a.receiver.now) a.datagram.now a.index.now a.answers.now
     (sym c.well_formed-2.ensures ∙ c.if-not-well_formed.false) c.if-answers-index.true)
 

@@ -1,9 +1,8 @@
 -- One packet: another type leaves all as it was, and one of the type is taken as the definition takes it. Assumes nothing.
 use Rattle.std.proofs.Common.{◌≡◌, sym, ap, ◌∙◌, true}
-use Rattle.refusal.specs.Said.{Said, refusal_in, says}
+use Rattle.refusal.specs.Said.{Said, refusal_in}
 use Rattle.receive.proofs.Takes.{taken_other, taken-one}
 use Rattle.receive.proofs.receiver.take_one.Goals as goal
-use Rattle.receive.proofs.receiver.take_one.Goals.{in-Ok, in-Err}
 
 pub returns-then-type_at_unchecked-packet_type-clause-value : goal.returns-then-type_at_unchecked-packet_type-clause-value
 returns-then-type_at_unchecked-packet_type-clause-value g c =
@@ -14,9 +13,7 @@ returns-then-type_at_unchecked-packet_type-clause-value g c =
 pub returns-clause-value : goal.returns-clause-value
 returns-clause-value g c =
     let r = g.R.Receiver in
-    let call = c.take_unchecked.ensures in
-    let answer : c.match-take_unchecked.answers ≡ refusal_in (says {B = Unit} (λ x. x) c.take_unchecked.result) =
-    elim c.match-take_unchecked.branch [ in-Ok w ↦ rw w.in-Ok.is w.answers-is | in-Err w ↦ rw w.in-Err.is (w.answers-is ∙ w.number.ensures) ] in
+    let call = c.take_unchecked-taken.ensures in
     taken-one (λ x. r.well x ≡ true) r.kind r.call g.met.R.Receiver.early _ c.args.i c.args.at c.args.len (r.state c.args.receiver.now) _
     c.type_at_unchecked.ensures (c.if-type_at_unchecked-packet_type.false ∙ c.packet_type.ensures)
-    (answer ∙ ap (λ (x : Said Unit × r.State). refusal_in x.0) call.value) (ap (λ (x : Said Unit × r.State). x.1) call.value) call.well
+    (c.refusal_in.ensures ∙ ap (λ (x : Said Unit × r.State). refusal_in x.0) call.value) (ap (λ (x : Said Unit × r.State). x.1) call.value) call.well
