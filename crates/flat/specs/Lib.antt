@@ -7,6 +7,5 @@ pub mod Buffer
 pub mod Ring
 pub mod Datagrams
 pub mod Closing
-pub mod Hello
 pub mod Waiting
 pub mod Kept

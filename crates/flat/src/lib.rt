@@ -8,7 +8,6 @@ pub mod buffer;
 pub mod closing;
 pub mod datagrams;
 pub mod headers;
-pub mod hello;
 pub mod kept;
 pub mod packets;
 pub mod ring;

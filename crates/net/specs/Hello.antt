@@ -1,9 +1,15 @@
 -- Which packets of the handshake a host takes: document 01, end of "Closing"; `is_hello_packet` and `is_client_ack_packet` of net/mod.rs.
-use Rattle.std.specs.Prelude.{ℕ, Bool, true, false, not, ◌&&◌, eqb}
+use Rattle.std.specs.Prelude.{ℕ, zero, suc, Bool, true, false, not, ◌&&◌, eqb}
 use Rattle.header.specs.declared.BluefinHeader.{BluefinHeader}
 use Rattle.header.specs.Types.{type_number}
 use Rattle.net.specs.declared.BluefinHost.{BluefinHost}
 use Rattle.net.specs.declared.BluefinHost.TheVariants.{PackLeader, Client, Other}
+
+-- the kinds of host by number: "PackLeader ..; Client ..; any other host"
+abbrev pub host_in : ℕ → BluefinHost
+host_in zero = PackLeader
+host_in (suc zero) = Client
+host_in (suc (suc n)) = Other
 
 abbrev pub has_type : BluefinHeader → ℕ → Bool
 has_type h n = eqb (type_number h.type_field) n

@@ -5,7 +5,7 @@
 
 ghost use Rattle.std.specs.Prelude.{◌≡◌, List, ℕ};
 ghost use Rattle.refusal.specs.Said.{Said, says};
-ghost use Rattle.net.specs.Hello.{is_hello, is_client_ack};
+ghost use Rattle.net.specs.Hello.{host_in, is_hello, is_client_ack};
 ghost use Rattle.net.specs.Control.{header_alone, writes_control, writes_fin, writes_fin_ack};
 
 use header::{BluefinHeader, BluefinSecurityFields, HEADER_SIZE, PacketType};
@@ -27,6 +27,19 @@ pub enum BluefinHost {
     PackLeader,
     Client,
     Other,
+}
+
+// A host that hands its kind over as a number: 0 is PackLeader, 1 Client, any other some other host.
+impl From<u8> for BluefinHost {
+    ghost from_gives = { λ n host. host ≡ host_in n };
+
+    fn from(number: u8) -> Self {
+        match number {
+            0 => Self::PackLeader,
+            1 => Self::Client,
+            _ => Self::Other,
+        }
+    }
 }
 
 // The two ends of a connection, as the headers of one side name them.

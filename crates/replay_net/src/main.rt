@@ -10,11 +10,7 @@ use refusal::Refusal;
 use std::io::{self, Read, Write};
 
 fn read_host(replay: &mut Replay<impl Read, impl Write>) -> io::Result<BluefinHost> {
-    Ok(match replay.read_word()? {
-        0 => BluefinHost::PackLeader,
-        1 => BluefinHost::Client,
-        _ => BluefinHost::Other,
-    })
+    Ok(BluefinHost::from(replay.read_u8()?))
 }
 
 fn read_ids(replay: &mut Replay<impl Read, impl Write>) -> io::Result<ConnectionIds> {
