@@ -32,7 +32,7 @@ pub extern "C" fn bluefin_outstanding_list_into(
         lengths,
         packets,
     };
-    flat::kept::list_into(&store, out)
+    store.list_into(out).into()
 }
 
 #[unsafe(no_mangle)]
@@ -52,5 +52,6 @@ pub extern "C" fn bluefin_outstanding_drop_answered(
         lengths,
         packets,
     };
-    flat::kept::drop_answered(&mut store, last)
+    let answer = store.drop_answered(last);
+    Dropped::new(store.state, answer)
 }

@@ -45,7 +45,8 @@ pub extern "C" fn bluefin_consume_data_into(
         source: src_conn_id,
         destination: dst_conn_id,
     };
-    flat::sending::consume_data_into(&mut store, &queue, next_packet_num, ids, out)
+    let answer = writer::consume_data_into(&mut store, &queue, next_packet_num, ids, out);
+    DataPacked::new(store.state, answer)
 }
 
 #[unsafe(no_mangle)]

@@ -1,12 +1,10 @@
 // The answers of crates/outstanding as hosts have them: the store's state to go on with stands in dropping's, refused or not.
-// Proved: each conversion is that of specs/Kept.antt, and what each call answers and leaves is the flat form of the definition in crates/outstanding.
+// Proved: each conversion is that of specs/Kept.antt.
 ghost use Rattle.std.specs.Prelude.{◌≡◌};
 ghost use Rattle.refusal.specs.Said.{says};
-ghost use Rattle.outstanding.specs.Outstanding.{store_in, store_now, SameLent, listing, answering};
-ghost use Rattle.flat.specs.Answers.{first_by};
-ghost use Rattle.flat.specs.Kept.{listed_of, dropped_of, flat_dropping};
+ghost use Rattle.flat.specs.Kept.{listed_of, dropped_of};
 
-use outstanding::{Outstanding, StoreView, StoreViewMut};
+use outstanding::Outstanding;
 use refusal::Refusal;
 
 #[repr(C)]
@@ -49,18 +47,4 @@ impl Dropped {
             refusal: refusal::refusal_in(answer),
         }
     }
-}
-
-pub fn list_into(store: &StoreView, out: &mut [u8]) -> Listed
-    ensures { (result, out.new) ≡ first_by listed_of (listing (store_in store.now) out.old) }
-{
-    store.list_into(out).into()
-}
-
-pub fn drop_answered(store: &mut StoreViewMut, last: u64) -> Dropped
-    ensures lent { SameLent store.old store.new }
-    ensures left { (result, store_now store.new) ≡ flat_dropping (answering (store_now store.old) last) }
-{
-    let answer = store.drop_answered(last);
-    Dropped::new(store.state, answer)
 }

@@ -1,16 +1,12 @@
 // The answers of crates/writer as hosts have them, but for those of acks: the store's state to go on with stands in packing's, refused or not.
-// Proved: each conversion is that of specs/Sending.antt, and what packing answers and leaves is the flat form of the definition in crates/writer.
+// Proved: each conversion is that of specs/Sending.antt.
 ghost use Rattle.std.specs.Prelude.{◌≡◌};
 ghost use Rattle.refusal.specs.Said.{says};
-ghost use Rattle.outstanding.specs.Outstanding.{store_now, SameLent};
-ghost use Rattle.writer.specs.Packing.{queue_in};
-ghost use Rattle.writer.specs.Sending.{consumes_data};
-ghost use Rattle.flat.specs.Sending.{data_packed_of, flat_sending, reserved_of};
+ghost use Rattle.flat.specs.Sending.{data_packed_of, reserved_of};
 
-use net::ConnectionIds;
-use outstanding::{Outstanding, StoreViewMut};
+use outstanding::Outstanding;
 use refusal::Refusal;
-use writer::{Queue, Reservation};
+use writer::Reservation;
 
 #[repr(C)]
 #[derive(Clone, Copy, Debug, PartialEq, Eq)]
@@ -76,19 +72,4 @@ impl From<Result<Reservation, Refusal>> for Reserved {
             },
         }
     }
-}
-
-pub fn consume_data_into(
-    store: &mut StoreViewMut,
-    queue: &Queue,
-    next_packet_num: u64,
-    ids: ConnectionIds,
-    out: &mut [u8],
-) -> DataPacked
-    ensures lent { SameLent store.old store.new }
-    ensures sent { (result, out.new, store_now store.new)
-        ≡ flat_sending (consumes_data (store_now store.old) (queue_in queue.now) next_packet_num ids.source ids.destination out.old) }
-{
-    let answer = writer::consume_data_into(store, queue, next_packet_num, ids, out);
-    DataPacked::new(store.state, answer)
 }
