@@ -28,7 +28,7 @@ impl Inserted {
 
 // A length of 0 says that the smallest expected number is absent.
 #[repr(C)]
-#[derive(Clone, Copy, Debug, PartialEq, Eq)]
+#[derive(Clone, Copy, Debug, PartialEq, Eq, Default)]
 pub struct Run {
     pub window: SlidingWindow,
     pub last: u64,
@@ -40,22 +40,21 @@ impl Run {
     pub fn new(window: SlidingWindow, answer: Result<Option<window::Run>, Refusal>) -> Self
         ensures { result ≡ run_of (says run_in answer) window }
     {
-        let none = Self {
-            window,
-            last: 0,
-            length: 0,
-            refusal: 0,
-        };
         match answer {
             Ok(Some(window::Run { last, length })) => Self {
+                window,
                 last,
                 length,
-                ..none
+                refusal: 0,
             },
-            Ok(None) => none,
+            Ok(None) => Self {
+                window,
+                ..Self::default()
+            },
             Err(refusal) => Self {
+                window,
                 refusal: refusal.number(),
-                ..none
+                ..Self::default()
             },
         }
     }

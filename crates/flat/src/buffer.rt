@@ -17,7 +17,7 @@ pub struct Started {
 
 // The ack is refusal 5's: its base and its count are 0 with every other answer.
 #[repr(C)]
-#[derive(Clone, Copy, Debug, PartialEq, Eq)]
+#[derive(Clone, Copy, Debug, PartialEq, Eq, Default)]
 pub struct Accepted {
     pub ack_base: u64,
     pub ack_count: usize,
@@ -25,7 +25,7 @@ pub struct Accepted {
 }
 
 #[repr(C)]
-#[derive(Clone, Copy, Debug, PartialEq, Eq)]
+#[derive(Clone, Copy, Debug, PartialEq, Eq, Default)]
 pub struct Consumed {
     pub state: OrderedBytes,
     pub num_packets_consumed: usize,
@@ -35,7 +35,7 @@ pub struct Consumed {
 }
 
 #[repr(C)]
-#[derive(Clone, Copy, Debug, PartialEq, Eq)]
+#[derive(Clone, Copy, Debug, PartialEq, Eq, Default)]
 pub struct ConsumedBytes {
     pub state: OrderedBytes,
     pub num_packets_consumed: usize,
@@ -45,20 +45,12 @@ pub struct ConsumedBytes {
     pub refusal: u8,
 }
 
-// All 0: there is no buffer to go on with.
-const NO_BUFFER: OrderedBytes = OrderedBytes {
-    slot_width: 0,
-    front_slot: 0,
-    front_number: 0,
-    carry_len: 0,
-};
-
 impl Started {
-    // Of a call that makes a buffer, or none.
+    // Of a call that makes a buffer. Where it refuses there is none to go on with, and the state is all 0.
     pub fn created(answer: Result<OrderedBytes, Refusal>) -> Self
         ensures { result ≡ started_of no_buffer (says (λ o. o) answer) }
     {
-        Self::new(NO_BUFFER, answer)
+        Self::new(OrderedBytes::default(), answer)
     }
 
     // `before` is the state to go on with where the call refuses.
@@ -80,20 +72,15 @@ impl From<Result<(), AcceptError>> for Accepted {
 
     fn from(answer: Result<(), AcceptError>) -> Self {
         match answer {
-            Ok(()) => Self {
-                ack_base: 0,
-                ack_count: 0,
-                refusal: 0,
-            },
+            Ok(()) => Self::default(),
             Err(AcceptError::Below(ack)) => Self {
                 ack_base: ack.base_packet_number,
                 ack_count: ack.num_packets_consumed,
                 refusal: Refusal::Below.number(),
             },
             Err(AcceptError::Refused(refusal)) => Self {
-                ack_base: 0,
-                ack_count: 0,
                 refusal: refusal.number(),
+                ..Self::default()
             },
         }
     }
@@ -113,10 +100,8 @@ impl Consumed {
             },
             Err(refusal) => Self {
                 state,
-                num_packets_consumed: 0,
-                base_packet_number: 0,
-                bytes_consumed: 0,
                 refusal: refusal.number(),
+                ..Self::default()
             },
         }
     }
@@ -137,11 +122,8 @@ impl ConsumedBytes {
             },
             Err(refusal) => Self {
                 state,
-                num_packets_consumed: 0,
-                base_packet_number: 0,
-                bytes_consumed: 0,
-                pieces: 0,
                 refusal: refusal.number(),
+                ..Self::default()
             },
         }
     }

@@ -8,7 +8,7 @@ use close_handler::{CloseBuffer, CloseState};
 use refusal::Refusal;
 
 #[repr(C)]
-#[derive(Clone, Copy, Debug, PartialEq, Eq)]
+#[derive(Clone, Copy, Debug, PartialEq, Eq, Default)]
 pub struct CloseRecord {
     pub state_fin: u64,
     pub pending_fin_ack_send: u64,
@@ -27,7 +27,7 @@ pub struct CloseAfter {
 }
 
 #[repr(C)]
-#[derive(Clone, Copy, Debug, PartialEq, Eq)]
+#[derive(Clone, Copy, Debug, PartialEq, Eq, Default)]
 pub struct FinAckTaken {
     pub close: CloseRecord,
     pub number: u64,
@@ -121,9 +121,8 @@ impl CloseRecord {
             }
             Err(r) => FinAckTaken {
                 close: self,
-                number: 0,
-                was_pending: false,
                 refusal: r.number(),
+                ..FinAckTaken::default()
             },
         }
     }

@@ -8,7 +8,7 @@ use header::{BluefinHeader, BluefinSecurityFields, PacketType};
 use refusal::{ReadError, Refusal};
 
 #[repr(C)]
-#[derive(Clone, Copy, Debug, PartialEq, Eq)]
+#[derive(Clone, Copy, Debug, PartialEq, Eq, Default)]
 pub struct Header {
     pub packet_number: u64,
     pub source_connection_id: u32,
@@ -21,14 +21,14 @@ pub struct Header {
 }
 
 #[repr(C)]
-#[derive(Clone, Copy, Debug, PartialEq, Eq)]
+#[derive(Clone, Copy, Debug, PartialEq, Eq, Default)]
 pub struct Written {
     pub bytes: usize,
     pub refusal: u8,
 }
 
 #[repr(C)]
-#[derive(Clone, Copy, Debug, PartialEq, Eq)]
+#[derive(Clone, Copy, Debug, PartialEq, Eq, Default)]
 pub struct HeaderRead {
     pub header: Header,
     pub cursor: usize,
@@ -83,17 +83,6 @@ impl From<BluefinHeader> for Header {
     }
 }
 
-const NO_HEADER: Header = Header {
-    packet_number: 0,
-    source_connection_id: 0,
-    destination_connection_id: 0,
-    type_specific_payload: 0,
-    version: 0,
-    type_field: 0,
-    header_protection_mask: 0,
-    header_encrypted: false,
-};
-
 impl From<Result<usize, Refusal>> for Written {
     ghost from_gives = { λ r w. w ≡ written_of (says (λ n. n) r) };
 
@@ -101,8 +90,8 @@ impl From<Result<usize, Refusal>> for Written {
         match answer {
             Ok(bytes) => Self { bytes, refusal: 0 },
             Err(refusal) => Self {
-                bytes: 0,
                 refusal: refusal.number(),
+                ..Self::default()
             },
         }
     }
@@ -115,13 +104,12 @@ impl From<Result<BluefinHeader, ReadError>> for HeaderRead {
         match answer {
             Ok(header) => Self {
                 header: header.into(),
-                cursor: 0,
-                refusal: 0,
+                ..Self::default()
             },
             Err(error) => Self {
-                header: NO_HEADER,
                 cursor: error.cursor.unwrap_or(0),
                 refusal: error.refusal.number(),
+                ..Self::default()
             },
         }
     }

@@ -8,7 +8,7 @@ use outstanding::Outstanding;
 use refusal::Refusal;
 
 #[repr(C)]
-#[derive(Clone, Copy, Debug, PartialEq, Eq)]
+#[derive(Clone, Copy, Debug, PartialEq, Eq, Default)]
 pub struct Listed {
     pub packets: usize,
     pub refusal: u8,
@@ -31,8 +31,8 @@ impl From<Result<usize, Refusal>> for Listed {
                 refusal: 0,
             },
             Err(refusal) => Self {
-                packets: 0,
                 refusal: refusal.number(),
+                ..Self::default()
             },
         }
     }

@@ -9,7 +9,7 @@ use refusal::ReadError;
 
 // `packets` is how many stand in the index, refused or not.
 #[repr(C)]
-#[derive(Clone, Copy, Debug, PartialEq, Eq)]
+#[derive(Clone, Copy, Debug, PartialEq, Eq, Default)]
 pub struct Parsed {
     pub packets: usize,
     pub cursor: usize,
@@ -24,13 +24,12 @@ impl From<Result<usize, ReadError>> for Parsed {
         match answer {
             Ok(packets) => Self {
                 packets,
-                cursor: 0,
-                refusal: 0,
+                ..Self::default()
             },
             Err(e) => Self {
-                packets: 0,
                 cursor: e.cursor.unwrap_or(0),
                 refusal: e.refusal.number(),
+                ..Self::default()
             },
         }
     }

@@ -10,7 +10,7 @@ use ring_buffer::{AckData, RingBuffer};
 use writer::acks;
 
 #[repr(C)]
-#[derive(Clone, Copy, Debug, PartialEq, Eq)]
+#[derive(Clone, Copy, Debug, PartialEq, Eq, Default)]
 pub struct Pushed {
     pub ring: RingBuffer,
     pub given_back: AckData,
@@ -19,7 +19,7 @@ pub struct Pushed {
 }
 
 #[repr(C)]
-#[derive(Clone, Copy, Debug, PartialEq, Eq)]
+#[derive(Clone, Copy, Debug, PartialEq, Eq, Default)]
 pub struct Popped {
     pub ring: RingBuffer,
     pub ack: AckData,
@@ -34,7 +34,7 @@ pub struct Cleared {
 }
 
 #[repr(C)]
-#[derive(Clone, Copy, Debug, PartialEq, Eq)]
+#[derive(Clone, Copy, Debug, PartialEq, Eq, Default)]
 pub struct AcksPacked {
     pub ring: RingBuffer,
     pub acks: usize,
@@ -49,9 +49,7 @@ impl Pushed {
         match answer {
             Ok(None) => Self {
                 ring,
-                given_back: AckData::BLANK,
-                full: false,
-                refusal: 0,
+                ..Self::default()
             },
             Ok(Some(a)) => Self {
                 ring,
@@ -61,9 +59,8 @@ impl Pushed {
             },
             Err(r) => Self {
                 ring,
-                given_back: AckData::BLANK,
-                full: false,
                 refusal: r.number(),
+                ..Self::default()
             },
         }
     }
@@ -82,8 +79,8 @@ impl Popped {
             },
             Err(r) => Self {
                 ring,
-                ack: AckData::BLANK,
                 refusal: r.number(),
+                ..Self::default()
             },
         }
     }
@@ -113,9 +110,8 @@ impl AcksPacked {
             },
             Err(r) => Self {
                 ring,
-                acks: 0,
-                to_send: false,
                 refusal: r.number(),
+                ..Self::default()
             },
         }
     }

@@ -9,7 +9,7 @@ use refusal::Refusal;
 use writer::Reservation;
 
 #[repr(C)]
-#[derive(Clone, Copy, Debug, PartialEq, Eq)]
+#[derive(Clone, Copy, Debug, PartialEq, Eq, Default)]
 pub struct DataPacked {
     pub bytes: usize,
     pub packets: usize,
@@ -21,7 +21,7 @@ pub struct DataPacked {
 }
 
 #[repr(C)]
-#[derive(Clone, Copy, Debug, PartialEq, Eq)]
+#[derive(Clone, Copy, Debug, PartialEq, Eq, Default)]
 pub struct Reserved {
     pub number: u64,
     pub next_packet_num: u64,
@@ -43,13 +43,9 @@ impl DataPacked {
                 refusal: 0,
             },
             Err(refusal) => Self {
-                bytes: 0,
-                packets: 0,
-                next_packet_num: 0,
-                entries_removed: 0,
-                bytes_cut: 0,
                 outstanding,
                 refusal: refusal.number(),
+                ..Self::default()
             },
         }
     }
@@ -66,9 +62,8 @@ impl From<Result<Reservation, Refusal>> for Reserved {
                 refusal: 0,
             },
             Err(refusal) => Self {
-                number: 0,
-                next_packet_num: 0,
                 refusal: refusal.number(),
+                ..Self::default()
             },
         }
     }

@@ -15,7 +15,7 @@ pub struct Sampled {
 }
 
 #[repr(C)]
-#[derive(Clone, Copy, Debug, PartialEq, Eq)]
+#[derive(Clone, Copy, Debug, PartialEq, Eq, Default)]
 pub struct Wait {
     pub micros: u64,
     pub refusal: u8,
@@ -39,8 +39,8 @@ impl From<Result<u64, Refusal>> for Wait {
         match answer {
             Ok(micros) => Self { micros, refusal: 0 },
             Err(r) => Self {
-                micros: 0,
                 refusal: r.number(),
+                ..Self::default()
             },
         }
     }

@@ -14,7 +14,7 @@ use refusal::Refusal;
 
 // The Rust's worker/writer.rs, `AckData`; the count has document 01's 32 bits.
 #[repr(C)]
-#[derive(Clone, Copy, Debug, PartialEq, Eq)]
+#[derive(Clone, Copy, Debug, PartialEq, Eq, Default)]
 pub struct AckData {
     pub base_packet_num: u64,
     pub num_packets_consumed: u32,

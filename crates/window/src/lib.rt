@@ -21,7 +21,7 @@ use refusal::Refusal;
 pub const MAX_SLIDING_WINDOW_SIZE: u64 = 40000;
 
 #[repr(C)]
-#[derive(Clone, Copy, Debug, PartialEq, Eq)]
+#[derive(Clone, Copy, Debug, PartialEq, Eq, Default)]
 pub struct SlidingWindow {
     pub smallest_expected: u64,
     pub count: usize,
