@@ -99,9 +99,9 @@ impl CloseRecord {
                 close: event(b).into(),
                 refusal: 0,
             },
-            Err(r) => CloseAfter {
+            Err(refusal) => CloseAfter {
                 close: self,
-                refusal: r.number(),
+                refusal: refusal.number(),
             },
         }
     }
@@ -119,9 +119,9 @@ impl CloseRecord {
                     refusal: 0,
                 }
             }
-            Err(r) => FinAckTaken {
+            Err(refusal) => FinAckTaken {
                 close: self,
-                refusal: r.number(),
+                refusal: refusal.number(),
                 ..FinAckTaken::default()
             },
         }

@@ -26,9 +26,9 @@ impl From<Result<usize, ReadError>> for Parsed {
                 packets,
                 ..Self::default()
             },
-            Err(e) => Self {
-                cursor: e.cursor.unwrap_or(0),
-                refusal: e.refusal.number(),
+            Err(error) => Self {
+                cursor: error.cursor.unwrap_or(0),
+                refusal: error.refusal.number(),
                 ..Self::default()
             },
         }

@@ -57,9 +57,9 @@ impl Pushed {
                 full: true,
                 refusal: 0,
             },
-            Err(r) => Self {
+            Err(refusal) => Self {
                 ring,
-                refusal: r.number(),
+                refusal: refusal.number(),
                 ..Self::default()
             },
         }
@@ -77,9 +77,9 @@ impl Popped {
                 ack,
                 refusal: 0,
             },
-            Err(r) => Self {
+            Err(refusal) => Self {
                 ring,
-                refusal: r.number(),
+                refusal: refusal.number(),
                 ..Self::default()
             },
         }
@@ -108,9 +108,9 @@ impl AcksPacked {
                 to_send: packed.to_send,
                 refusal: 0,
             },
-            Err(r) => Self {
+            Err(refusal) => Self {
                 ring,
-                refusal: r.number(),
+                refusal: refusal.number(),
                 ..Self::default()
             },
         }

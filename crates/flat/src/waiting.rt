@@ -38,8 +38,8 @@ impl From<Result<u64, Refusal>> for Wait {
     fn from(answer: Result<u64, Refusal>) -> Self {
         match answer {
             Ok(micros) => Self { micros, refusal: 0 },
-            Err(r) => Self {
-                refusal: r.number(),
+            Err(refusal) => Self {
+                refusal: refusal.number(),
                 ..Self::default()
             },
         }
