@@ -62,7 +62,7 @@ pub struct ConsumeResult {
 // Refusal 5 stands apart: it gives an ack, of that number and count 1, in the form of a read's (document 02, §3).
 #[derive(Clone, Copy, Debug, PartialEq, Eq, Error)]
 pub enum AcceptError {
-    #[error("a number below those expected")]
+    #[error("{}", Refusal::Below)]
     Below(ConsumeResult),
     #[error("{0}")]
     Refused(Refusal),
