@@ -13,7 +13,6 @@ use lib.Dec.{ltb, eqb}
 use borrow.Rule.Slice.PartMut.{put_mid}
 use borrow.Author.Tests.{lt-ltb, le-ltb, lt-leb, ltb-true}
 use Rattle.std.proofs.lemmas.Slice.{put_mid-paste}
-use Rattle.std.specs.List.{AllAdjacentBelow, IsAllAdjacentAnswer}
 use Rattle.lists.specs.Numbers.{largest}
 use Rattle.refusal.specs.Said.{answers, refuses, checks}
 use Rattle.lists.proofs.Tests.{both}
@@ -27,35 +26,23 @@ use Rattle.window.specs.Window.{well_formed, stored_cells, grown, before_held, s
 use Rattle.window.proofs.Rises.{Rises, is_holdable, holdable_is, is_member, held_fits, rises_at, not-before, place-from}
 use Rattle.window.proofs.Members.{before_is}
 
--- `is_rising`: five neighbours decide, or leave it to the numbers from the fifth on; at the end each number and the next decide
-pub rising_five : (xs : List ℕ) → 5 ≤ length xs → rising xs
-    ≡ ((ltb (get_or xs 0 0) (get_or xs 1 0) && ltb (get_or xs 1 0) (get_or xs 2 0) && ltb (get_or xs 2 0) (get_or xs 3 0) && ltb (get_or xs 3 0) (get_or xs 4 0)) && rising (drop 4 xs))
+-- `is_rising`: the first number alone rises; one number more rises if those before it do, and the last of them is below it
+pub rising_one : (xs : List ℕ) → rising (take 1 xs) ≡ true
 unfolding rising
-rising_five [] h = absurd (omega arith)
-rising_five (a ∷ []) h = absurd (omega arith)
-rising_five (a ∷ b ∷ []) h = absurd (omega arith)
-rising_five (a ∷ b ∷ c ∷ []) h = absurd (omega arith)
-rising_five (a ∷ b ∷ c ∷ d ∷ []) h = absurd (omega arith)
-rising_five (a ∷ b ∷ c ∷ d ∷ e ∷ xs) h = simp and_assoc
+rising_one [] = refl
+rising_one (x ∷ xs) = refl
 
-rising_all : (xs : List ℕ) → AllAdjacentBelow (λ x y. true ≡ ltb x y) xs (length xs) → rising xs ≡ true
+next_rises : (i : ℕ) (xs : List ℕ) → suc i < length xs → rising (take (suc (suc i)) xs) ≡ (rising (take (suc i) xs) && ltb (get_or xs i 0) (get_or xs (suc i) 0))
 unfolding rising
-rising_all [] h = refl
-rising_all (x ∷ []) h = refl
-rising_all (x ∷ y ∷ ys) h = rw (← h 0 0 (omega arith)) (rising_all (y ∷ ys) (λ k d l. let q : suc k + 1 ≡ suc (k + 1) = omega arith in rw q at (h (suc k) d (omega arith))))
+next_rises i [] h = absurd (not-suc-le-zero h)
+next_rises i (x ∷ []) h = absurd (omega arith)
+next_rises zero (x ∷ y ∷ ys) h = and-true (ltb x y)
+next_rises (suc i) (x ∷ y ∷ ys) h = rw (next_rises i (y ∷ ys) (le_of_suc-le-suc h)) (sym (and_assoc (ltb x y) _ _))
 
-rising_some : (xs : List ℕ) (k : ℕ) → k + 1 < length xs → false ≡ ltb (get_or xs k 0) (get_or xs (k + 1) 0) → rising xs ≡ false
-unfolding rising
-rising_some [] k l h = absurd (omega arith)
-rising_some (x ∷ []) k l h = absurd (omega arith)
-rising_some (x ∷ y ∷ ys) zero l h = rw (← h)
-rising_some (x ∷ y ∷ ys) (suc k) l h =
-    let q : suc k + 1 ≡ suc (k + 1) = omega arith in
-    rw (rising_some (y ∷ ys) k (omega arith) (rw q at h)) (and-false (ltb x y))
-
-pub rising_adjacent : (xs : List ℕ) (r : Bool) → IsAllAdjacentAnswer (λ x y b. b ≡ ltb x y) xs r → r ≡ rising xs
-rising_adjacent xs true h = sym (rising_all xs h)
-rising_adjacent xs false h = sym (rising_some xs h.0 h.1 (h.2 0))
+pub rising_next : (i : ℕ) (xs : List ℕ) → 0 < i → i < length xs → rising (take (i + 1) xs) ≡ (rising (take i xs) && ltb (get_or xs (i - 1) 0) (get_or xs i 0))
+rising_next i xs h l =
+    let q : suc (i - 1) ≡ i = omega arith in
+    rw (add-one i) (rw q at (next_rises (i - 1) xs (omega arith)))
 
 -- `well_formed`: rising numbers may all be held where the first and the last may
 between : (w : SlidingWindow) (x y z : ℕ) → x ≤ y → y ≤ z → holdable w x ≡ true → holdable w z ≡ true → holdable w y ≡ true
