@@ -272,7 +272,8 @@ fn is_rising(numbers: &[u64]) -> bool
 // of passes lent to it (document 02 §4). Nothing tests what is left: that 1 can be taken off is proved at each of these lines, and so the budget
 // never runs out.
 
-// Where n stands, or would stand. From the back, as acks come mostly in order.
+// Where n stands, or would stand. From the back, as acks come mostly in order; by a range that goes up, of which a turn takes four instructions, and a
+// reversed one's seven.
 #[tactic(auto, using(crate::proofs::Loops::place_behind, crate::proofs::Loops::place_before), unfolding(crate::specs::Window::place))]
 fn find_place(held: &[u64], n: u64, budget: &mut usize) -> usize
     requires rises { Rises 0 largest held.now }
@@ -280,10 +281,11 @@ fn find_place(held: &[u64], n: u64, budget: &mut usize) -> usize
     ensures value { (result ≡ place n held.now) × (result ≤ length held.now) }
     ensures paid { budget.old ≡ budget.new + place_passes (length held.now) result }
 {
-    for i in (0..held.len()).rev() {
+    for behind in 0..held.len() {
         *budget -= 1;
-        if held[i] < n {
-            return i + 1;
+        let at = held.len() - behind;
+        if held[at - 1] < n {
+            return at;
         }
     }
     0
