@@ -4,6 +4,7 @@ use Prim.Native.Nat.{ℕ, zero, suc, ◌+◌, ◌-◌, ◌≤◌, ◌<◌}
 use mathlib.Core.Path.{◌≡◌, refl, sym, ap, ◌∙◌}
 use mathlib.Core.Bool.{Bool, true, false, cond, ◌&&◌, and_assoc, and_self, and-true, and-false}
 use mathlib.Core.List.{List, [], ◌∷◌, ◌++◌, append_assoc, append-nil}
+use mathlib.Core.Logic.{◌⊎◌, inl, inr}
 use native.Mathlib.Nat.{le_of_suc-le-suc, not-suc-le-zero}
 use native.Mathlib.Numerals.{add-one}
 use native.Mathlib.Omega.{arith}
@@ -11,7 +12,10 @@ use lib.ListN.{length, take, drop, get_or, set, replicate, length-append, length
 use lib.Seq.{paste, length-take-le, get_or-take, take-take, take-length, paste-suc, drop-cons}
 use lib.Dec.{ltb, eqb}
 use borrow.Rule.Slice.PartMut.{put_mid}
-use borrow.Author.Tests.{lt-ltb, le-ltb, lt-leb, ltb-true}
+use borrow.Author.Tests.{lt-ltb, le-ltb, lt-leb, ltb-true, ltb-false}
+use Rattle.std.specs.Prelude.{Option, Some, None, is_some, IfSome, unwrap_or, option_copied}
+use Rattle.std.proofs.Common.{Bor}
+use Rattle.std.proofs.lemmas.List.{get_or_default}
 use Rattle.std.proofs.lemmas.Slice.{put_mid-paste}
 use Rattle.lists.specs.Numbers.{largest}
 use Rattle.refusal.specs.Said.{answers, refuses, checks}
@@ -104,10 +108,10 @@ place_before n i xs h k l =
     rw q at (before n (i - 1) xs (omega arith) l)
 
 -- `first_held`: the first held number stands at base's place, if there is one
-pub place_cell : (b at : ℕ) (xs : List ℕ) → at ≡ place b xs → at < length xs → b ≤ get_or xs at 0
+place_cell : (b at : ℕ) (xs : List ℕ) → at ≡ place b xs → at < length xs → b ≤ get_or xs at 0
 place_cell b at xs q h = rw (← q) at (place-from b xs (rw q at h))
 
-pub before_cell : (lo hi b range at i : ℕ) (xs : List ℕ) → Rises lo hi xs → at ≡ place b xs → i ≤ range
+before_cell : (lo hi b range at i : ℕ) (xs : List ℕ) → Rises lo hi xs → at ≡ place b xs → i ≤ range
     → (at < length xs → b + i ≤ get_or xs at 0) → (i < range → (at < length xs) × (get_or xs at 0 ≡ b + i)) → i ≡ before_held b range xs
 before_cell lo hi b range at i xs r q l f m =
     sym (before_is b range i xs record {
@@ -115,6 +119,24 @@ before_cell lo hi b range at i xs r q l f m =
       free = λ j h. not-before hi lo b (b + j) xs r (omega arith) (λ p. rw (← q) (let g = f (rw (← q) at p) in omega arith));
       held = λ h. let u = m h in is_member (b + i) at xs u.0 u.1;
     })
+
+-- .. what the range is compared with: that number, or the largest where none stands there
+abbrev pub Next : List ℕ → ℕ → ℕ → Type 0
+Next xs at next = ((at < length xs) × (next ≡ get_or xs at 0)) ⊎ ((length xs ≤ at) × (next ≡ largest))
+
+pub next_is : (xs : List ℕ) (at : ℕ) (got : Option (Bor ℕ)) {copied : Option ℕ} {next : ℕ} → is_some got ≡ ltb at (length xs)
+    → IfSome got (λ x. x.now ≡ get_or xs at x.now) → copied ≡ option_copied got → next ≡ unwrap_or copied largest → Next xs at next
+next_is xs at None e f c q = inr (ltb-false at (length xs) (sym e), q ∙ ap (λ o. unwrap_or o largest) c)
+next_is xs at (Some x) e f c q = let h = ltb-true at (length xs) (sym e) in inl (h, q ∙ ap (λ o. unwrap_or o largest) c ∙ f ∙ get_or_default xs at x.now 0 h)
+
+pub next_from : (b at : ℕ) (xs : List ℕ) {next : ℕ} → at ≡ place b xs → b ≤ largest → Next xs at next → b ≤ next
+next_from b at xs q l (inl n) = omega (arith, place_cell b at xs q n.0)
+next_from b at xs q l (inr n) = omega arith
+
+pub before_next : (b range at i : ℕ) (xs : List ℕ) {next : ℕ} → Rises 0 largest xs → at ≡ place b xs → i ≤ range → b + range ≤ largest → Next xs at next
+    → b + i ≤ next → (i < range → next ≡ b + i) → i ≡ before_held b range xs
+before_next b range at i xs r q l top (inl n) f m = before_cell 0 largest b range at i xs r q l (λ h. omega arith) (λ h. (n.0, sym n.1 ∙ m h))
+before_next b range at i xs r q l top (inr n) f m = before_cell 0 largest b range at i xs r q l (λ h. absurd (omega arith)) (λ h. let e = m h in absurd (omega arith))
 
 -- `run_length`
 pub run_at : (e i : ℕ) (xs : List ℕ) → i < length xs → run_length e (drop i xs) ≡ cond (eqb (get_or xs i 0) e) (run_length (e + 1) (drop (i + 1) xs) + 1) 0

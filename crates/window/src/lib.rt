@@ -292,7 +292,8 @@ fn find_place(held: &[u64], n: u64, budget: &mut usize) -> usize
 }
 
 // How many of the range's numbers, from base on, stand before the first that is held; `at` is base's place.
-// As the numbers rise, the first held one can stand nowhere but there.
+// As the numbers rise, the first held one can stand nowhere but there; the largest number, which no range has, stands for none. How far it is from
+// base is known before the loop, so that the compiler knows where the loop ends.
 fn first_held(held: &[u64], at: usize, base: u64, range: usize, budget: &mut usize) -> usize
     requires rises { Rises 0 largest held.now }
     requires place { at ≡ place base held.now }
@@ -301,9 +302,11 @@ fn first_held(held: &[u64], at: usize, base: u64, range: usize, budget: &mut usi
     ensures value { (result ≡ before_held base range held.now) × (result ≤ range) }
     ensures paid { budget.old ≡ budget.new + first_held_passes range result }
 {
+    let next = held.get(at).copied().unwrap_or(LARGEST);
+    let distance = next - base;
     for i in 0..range {
         *budget -= 1;
-        if at < held.len() && held[at] == base + i as u64 {
+        if i as u64 == distance {
             return i;
         }
     }
