@@ -9,7 +9,7 @@ use native.Mathlib.Nat.{le_of_suc-le-suc, not-suc-le-zero}
 use native.Mathlib.Numerals.{add-one}
 use native.Mathlib.Omega.{arith}
 use lib.ListN.{length, take, drop, get_or, set, replicate, length-append, length-drop, length-replicate, take-append-drop}
-use lib.Seq.{paste, length-take-le, get_or-take, take-take, take-length, paste-suc, drop-cons}
+use lib.Seq.{paste, length-take-le, get_or-take, take-take, take-length, take-suc-set, take_all, append_snoc, drop-cons}
 use lib.Dec.{ltb, eqb}
 use borrow.Rule.Slice.PartMut.{put_mid}
 use borrow.Author.Tests.{lt-ltb, le-ltb, lt-leb, ltb-true, ltb-false}
@@ -149,16 +149,22 @@ unfolding numbers
 length-numbers b zero = refl
 length-numbers b (suc k) = ap suc (length-numbers (suc b) k)
 
-pub get_or-numbers : (b k i : ℕ) → i < k → get_or (numbers b k) i 0 ≡ b + i
+pub fill_turn : (d : List ℕ) (i n : ℕ) → i < length d → take (i + 1) (set d i n) ++ numbers (n + 1) (length d - (i + 1)) ≡ take i d ++ numbers n (length d - i)
 unfolding numbers
-get_or-numbers b zero i h = absurd (not-suc-le-zero h)
-get_or-numbers b (suc k) zero h = omega arith
-get_or-numbers b (suc k) (suc i) h = get_or-numbers (suc b) k i (le_of_suc-le-suc h) ∙ omega arith
+fill_turn d i n h =
+    let left : length d - i ≡ suc (length d - suc i) = omega arith in
+    rw (left, add-one n, add-one i, take-suc-set d i n h) (append_snoc (take i d) n (numbers (suc n) (length d - suc i)))
 
-pub fill_turn : (d : List ℕ) (at b k i : ℕ) → i < k → at + k ≤ length d → set (paste d at (numbers b k) i) (at + i) (b + i) ≡ paste d at (numbers b k) (i + 1)
-fill_turn d at b k i h m =
-    let l = length-numbers b k in
-    rw (add-one i, ← get_or-numbers b k i h) (paste-suc d at (numbers b k) i 0 (omega arith) (omega arith))
+pub fill_end : (d : List ℕ) (i n : ℕ) → length d ≤ i → take i d ++ numbers n (length d - i) ≡ d
+unfolding numbers
+fill_end d i n h = let none : length d - i ≡ 0 = omega arith in rw (none, take_all i d h) (append-nil d)
+
+pub filled_is : (d : List ℕ) (at b k : ℕ) {filled : List ℕ} → at + k ≤ length d → filled ≡ numbers b (length (take (at + k - at) (drop at d)))
+    → put_mid at (at + k - at) d filled ≡ paste d at (numbers b k) k
+filled_is d at b k {filled} h s =
+    let back : at + k - at ≡ k = omega arith in
+    let is : filled ≡ numbers b k = s ∙ ap (numbers b) (rw back (length_part d at k h)) in
+    put_mid-paste at (at + k - at) d filled (numbers b k) k is (sym back) (sym (length-numbers b k))
 
 -- `shift_up`, then `fill`: k numbers stored at b's place
 stored_is : (cells shifted left : List ℕ) (b k count at : ℕ) → at ≡ place b (take count cells) → at ≤ count → count + k ≤ length cells

@@ -205,7 +205,7 @@ impl WindowViewMut<'_> {
             return Err(Refusal::BufferShort);
         }
         shift_up(self.cells, at, count, k, budget);
-        fill(self.cells, at, base, k, budget);
+        fill(&mut self.cells[at..at + k], base, budget);
         self.state.count += k;
         if k < range {
             return Err(Refusal::AlreadyHeld);
@@ -327,17 +327,18 @@ fn shift_up(cells: &mut [u64], from: usize, count: usize, k: usize, budget: &mut
     }
 }
 
-// Writes base, base + 1 and so on, k numbers, from the cell `at` on.
-#[tactic(auto, using(crate::proofs::Loops::fill_turn))]
-fn fill(cells: &mut [u64], at: usize, base: u64, k: usize, budget: &mut usize)
-    requires fits { (at + k ≤ length cells.old) × (base + k ≤ largest) }
-    requires allowed { k ≤ budget.old }
-    ensures cells_after { cells.new ≡ paste cells.old at (numbers base k) k }
-    ensures paid { budget.old ≡ budget.new + k }
+// Writes base, base + 1 and so on.
+fn fill(cells: &mut [u64], base: u64, budget: &mut usize)
+    requires fits { base + length cells.old ≤ largest }
+    requires allowed { length cells.old ≤ budget.old }
+    ensures cells_after { cells.new ≡ numbers base (length cells.old) }
+    ensures paid { budget.old ≡ budget.new + length cells.old }
 {
-    for i in 0..k {
+    let mut number = base;
+    for cell in cells.iter_mut() {
         *budget -= 1;
-        cells[at + i] = base + i as u64;
+        *cell = number;
+        number += 1;
     }
 }
 
