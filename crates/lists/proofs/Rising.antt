@@ -1,11 +1,13 @@
--- The ends of rising numbers.
+-- The ends of rising numbers, and what one number more makes of them.
 -- Assumes nothing.
-use Prim.Native.Nat.{ℕ, ◌≤◌}
-use mathlib.Core.Path.{◌≡◌}
-use mathlib.Core.Bool.{true}
+use Prim.Native.Nat.{ℕ, zero, suc, ◌+◌, ◌-◌, ◌≤◌, ◌<◌}
+use mathlib.Core.Path.{◌≡◌, refl, sym}
+use mathlib.Core.Bool.{true, ◌&&◌, and_assoc, and-true}
 use mathlib.Core.List.{List, [], ◌∷◌}
+use native.Mathlib.Nat.{le_of_suc-le-suc, not-suc-le-zero}
+use native.Mathlib.Numerals.{add-one}
 use native.Mathlib.Omega.{arith}
-use lib.ListN.{length, get_or}
+use lib.ListN.{length, take, get_or}
 use lib.Dec.{ltb}
 use borrow.Author.Tests.{ltb-true}
 use Rattle.lists.specs.Rising.{rising}
@@ -20,3 +22,21 @@ first_last x (y ∷ ys) r =
     let l = ltb-true x y up.0 in
     let m = first_last y ys up.1 in
     omega arith
+
+-- `is_rising`: the first number alone rises; one number more rises if those before it do, and the last of them is below it
+pub rising_one : (xs : List ℕ) → rising (take 1 xs) ≡ true
+unfolding rising
+rising_one [] = refl
+rising_one (x ∷ xs) = refl
+
+next_rises : (i : ℕ) (xs : List ℕ) → suc i < length xs → rising (take (suc (suc i)) xs) ≡ (rising (take (suc i) xs) && ltb (get_or xs i 0) (get_or xs (suc i) 0))
+unfolding rising
+next_rises i [] h = absurd (not-suc-le-zero h)
+next_rises i (x ∷ []) h = absurd (omega arith)
+next_rises zero (x ∷ y ∷ ys) h = and-true (ltb x y)
+next_rises (suc i) (x ∷ y ∷ ys) h = rw (next_rises i (y ∷ ys) (le_of_suc-le-suc h)) (sym (and_assoc (ltb x y) _ _))
+
+pub rising_next : (i : ℕ) (xs : List ℕ) → 0 < i → i < length xs → rising (take (i + 1) xs) ≡ (rising (take i xs) && ltb (get_or xs (i - 1) 0) (get_or xs i 0))
+rising_next i xs h l =
+    let q : suc (i - 1) ≡ i = omega arith in
+    rw (add-one i) (rw q at (next_rises (i - 1) xs (omega arith)))

@@ -25,27 +25,6 @@ use Rattle.packet.specs.Sizes.{payload_size}
 use Rattle.outstanding.specs.Outstanding.{size, up_to}
 use Rattle.outstanding.specs.Steps.{counting, sizes_for}
 
--- ---- is_rising
-
-rises : (xs : List ℕ) → AllAdjacentBelow (λ x y. true ≡ ltb x y) xs (length xs) → rising xs ≡ true
-unfolding rising
-rises [] h = refl
-rises (x ∷ []) h = refl
-rises (x ∷ y ∷ ys) h =
-    rw (sym (h 0 0 (omega arith))) (rises (y ∷ ys) (λ k d l. rw suc-add at (h (suc k) d (omega arith))))
-
-falls : (xs : List ℕ) (k : ℕ) → k + 1 < length xs → ((d : ℕ) → false ≡ ltb (get_or xs k d) (get_or xs (k + 1) d)) → rising xs ≡ false
-unfolding rising
-falls [] k l h = absurd (omega arith)
-falls (x ∷ []) k l h = absurd (omega arith)
-falls (x ∷ y ∷ ys) zero l h = rw (sym (h 0))
-falls (x ∷ y ∷ ys) (suc k) l h =
-    rw (falls (y ∷ ys) k (omega arith) (λ d. rw suc-add at (h d))) (and-false (ltb x y))
-
-pub rising_is : (xs : List ℕ) (r : Bool) → IsAllAdjacentAnswer (λ x y b. b ≡ ltb x y) xs r → r ≡ rising xs
-rising_is xs true h = sym (rises xs h)
-rising_is xs false (k, l, f) = sym (falls xs k l f)
-
 -- ---- size_of
 
 pub size_is : (ls : List ℕ) → size ls ≡ sum_by (λ l. 20 + l) ls

@@ -5,7 +5,6 @@
 ghost use Rattle.std.specs.Prelude.{◌≡◌, true, ℕ, ◌+◌, ◌≤◌, List, length};
 ghost use Rattle.refusal.specs.Said.{Said, says};
 ghost use Rattle.lists.specs.Numbers.{largest};
-ghost use Rattle.lists.specs.Rising.{rising};
 ghost use Rattle.lists.specs.Within.{all_within};
 ghost use Rattle.packet.specs.Sizes.{payload_size};
 ghost use Rattle.outstanding.specs.Outstanding.{Store, store_in, store_now, SameLent, fresh, numbers_of, lengths_of, size, roomy, well_formed, well_formed_below, listing, up_to, without, answering};
@@ -54,12 +53,6 @@ pub struct StoreViewMut<'a> {
     pub numbers: &'a mut [u64],
     pub lengths: &'a mut [u32],
     pub packets: &'a mut [u8],
-}
-
-fn is_rising(numbers: &[u64]) -> bool
-    ensures { result ≡ rising numbers.now }
-{
-    numbers.is_sorted_by(|number, next| number < next)
 }
 
 #[tactic(auto, using(lists::proofs::Within::longest_within), unfolding(packet::specs::Sizes::payload_size))]
@@ -121,7 +114,7 @@ impl StoreView<'_> {
         let count = self.state.count;
         self.is_roomy()
             && count <= PLACES
-            && is_rising(&self.numbers[..count])
+            && lists::is_rising(&self.numbers[..count])
             && are_payloads(&self.lengths[..count])
     }
 

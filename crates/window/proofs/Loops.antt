@@ -2,7 +2,7 @@
 -- Assumes nothing.
 use Prim.Native.Nat.{ℕ, zero, suc, ◌+◌, ◌-◌, ◌≤◌, ◌<◌}
 use mathlib.Core.Path.{◌≡◌, refl, sym, ap, ◌∙◌}
-use mathlib.Core.Bool.{Bool, true, false, cond, ◌&&◌, and_assoc, and_self, and-true, and-false}
+use mathlib.Core.Bool.{Bool, true, false, cond, ◌&&◌, and_self, and-true, and-false}
 use mathlib.Core.List.{List, [], ◌∷◌, ◌++◌, append_assoc, append-nil}
 use mathlib.Core.Logic.{◌⊎◌, inl, inr}
 use native.Mathlib.Nat.{le_of_suc-le-suc, not-suc-le-zero}
@@ -29,24 +29,6 @@ use Rattle.window.specs.Window.{window_size, Outcome, refused, expected, held, t
 use Rattle.window.specs.Window.{well_formed, stored_cells, grown, before_held, store_before, store_run, insert_packet_number, run_length}
 use Rattle.window.proofs.Rises.{Rises, is_holdable, holdable_is, is_member, held_fits, rises_at, not-before, place-from}
 use Rattle.window.proofs.Members.{before_is}
-
--- `is_rising`: the first number alone rises; one number more rises if those before it do, and the last of them is below it
-pub rising_one : (xs : List ℕ) → rising (take 1 xs) ≡ true
-unfolding rising
-rising_one [] = refl
-rising_one (x ∷ xs) = refl
-
-next_rises : (i : ℕ) (xs : List ℕ) → suc i < length xs → rising (take (suc (suc i)) xs) ≡ (rising (take (suc i) xs) && ltb (get_or xs i 0) (get_or xs (suc i) 0))
-unfolding rising
-next_rises i [] h = absurd (not-suc-le-zero h)
-next_rises i (x ∷ []) h = absurd (omega arith)
-next_rises zero (x ∷ y ∷ ys) h = and-true (ltb x y)
-next_rises (suc i) (x ∷ y ∷ ys) h = rw (next_rises i (y ∷ ys) (le_of_suc-le-suc h)) (sym (and_assoc (ltb x y) _ _))
-
-pub rising_next : (i : ℕ) (xs : List ℕ) → 0 < i → i < length xs → rising (take (i + 1) xs) ≡ (rising (take i xs) && ltb (get_or xs (i - 1) 0) (get_or xs i 0))
-rising_next i xs h l =
-    let q : suc (i - 1) ≡ i = omega arith in
-    rw (add-one i) (rw q at (next_rises (i - 1) xs (omega arith)))
 
 -- `well_formed`: rising numbers may all be held where the first and the last may
 between : (w : SlidingWindow) (x y z : ℕ) → x ≤ y → y ≤ z → holdable w x ≡ true → holdable w z ≡ true → holdable w y ≡ true

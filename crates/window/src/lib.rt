@@ -75,7 +75,7 @@ impl WindowView<'_> {
         ensures { result ≡ well_formed self.now.state self.now.cells.now }
     {
         let count = self.state.count;
-        if count > self.cells.len() || !is_rising(&self.cells[..count]) {
+        if count > self.cells.len() || !lists::is_rising(&self.cells[..count]) {
             return false;
         }
         count == 0
@@ -255,18 +255,6 @@ impl WindowViewMut<'_> {
             length,
         }))
     }
-}
-
-// A pass that never stops early, which the compiler makes wide: this is most of what a call costs.
-#[tactic(auto, using(crate::proofs::Loops::rising_one, crate::proofs::Loops::rising_next))]
-fn is_rising(numbers: &[u64]) -> bool
-    ensures { result ≡ rising numbers.now }
-{
-    let mut rises = true;
-    for i in 1..numbers.len() {
-        rises &= numbers[i - 1] < numbers[i];
-    }
-    rises
 }
 
 // The four loops of an insert, written out where a call of the library would do, since each turn, before anything else, pays 1 out of the budget
