@@ -1,7 +1,7 @@
 -- Accepting in the code's steps: the first two refusals, and for a number that has a slot what is left to check, on the lent lists.
 -- Assumes nothing.
 use Prim.Native.Nat.{ℕ, ◌-◌, ◌≤◌, ◌<◌}
-use mathlib.Core.Path.{◌≡◌, ap, ◌∙◌}
+use mathlib.Core.Path.{◌≡◌}
 use mathlib.Core.Bool.{true, false}
 use mathlib.Core.Option.{none}
 use mathlib.Core.List.{List, [], ◌∷◌}
@@ -23,21 +23,19 @@ accepting_in slot b n payload =
     (record { said = answers tt; ack = none; buffer = stored b slot payload })
 
 module _ (b : Buffer) (n : ℕ) (payload : List ℕ) (well : well_formed b ≡ true) where
-  abbrev Refuses : ℕ → Type 0
-  Refuses r = ◌≡◌ {A = Acceptance} (record { said = refuses r; ack = ack_with r n; buffer = b }) (accepting b n payload)
+  -- all stays as it was
+  abbrev pub refused_with : ℕ → Acceptance
+  refused_with r = record { said = refuses r; ack = ack_with r n; buffer = b }
 
-  pub refuses_below : n < b.state.front_number → Refuses 5
+  pub accepting_below : n < b.state.front_number → accepting b n payload ≡ refused_with 5
   unfolding accepting
-  refuses_below below = simp (well, view-front b, lt-ltb _ _ below)
+  accepting_below below = simp (well, view-front b, lt-ltb _ _ below)
 
-  pub refuses_beyond : b.state.front_number ≤ n → slots b ≤ n - b.state.front_number → Refuses 6
+  pub accepting_beyond : b.state.front_number ≤ n → slots b ≤ n - b.state.front_number → accepting b n payload ≡ refused_with 6
   unfolding accepting
-  refuses_beyond low far = simp (well, view-front b, length-held b, le-ltb _ _ low, le-leb _ _ far)
+  accepting_beyond low far = simp (well, view-front b, length-held b, le-ltb _ _ low, le-leb _ _ far)
 
-  -- in the slot at its distance, of a view of the buffer
-  pub accepts_near : {v : Buffer} {slot : ℕ} → b.state.front_number ≤ n → n - b.state.front_number < slots b → v ≡ b → slot ≡ slot_at v (n - b.state.front_number)
-      → accepting b n payload ≡ accepting_in slot b n payload
+  -- in the slot at its distance
+  pub accepting_near : b.state.front_number ≤ n → n - b.state.front_number < slots b → accepting b n payload ≡ accepting_in (slot_at b (n - b.state.front_number)) b n payload
   unfolding accepting
-  accepts_near low near same here =
-      rw (here ∙ ap (λ (x : Buffer). slot_at x (n - b.state.front_number)) same)
-      (simp (well, view-front b, view-width b, length-held b, le-ltb _ _ low, lt-leb _ _ near, mark_at b near))
+  accepting_near low near = simp (well, view-front b, view-width b, length-held b, le-ltb _ _ low, lt-leb _ _ near, mark_at b near)

@@ -94,8 +94,11 @@ CopyState b packets at first buf₀ buf list₀ list given done =
     Copying b packets at first buf₀ buf list₀ list given done (remaining b packets done) (payloads packets (view b).held)
 
 -- as many as are held are no more than there are slots
+pub held_few : (b : Buffer) (packets : ℕ) → length (held_payloads b packets) ≡ packets → packets ≤ slots b
+held_few b packets all_held = omega (arith, (payloads_most packets (view b).held).1, length-held b)
+
 pub held_below : (b : Buffer) {packets done : ℕ} → length (held_payloads b packets) ≡ packets → done < packets → done < slots b
-held_below b {packets} all_held more = omega (arith, (payloads_most packets (view b).held).1, length-held b)
+held_below b {packets} all_held more = omega (arith, held_few b packets all_held)
 
 module _ {b : Buffer} (g : Good b) {packets at first : ℕ} {buf₀ buf list₀ list : List ℕ} {given done slot : ℕ}
     (all_held : length (held_payloads b packets) ≡ packets) (room : RoomFor (held_payloads b packets) buf₀ at list₀ first)

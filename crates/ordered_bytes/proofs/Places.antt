@@ -5,12 +5,11 @@ use mathlib.Core.Path.{◌≡◌, refl, ap, ◌∙◌}
 use mathlib.Core.Bool.{Bool, true, false, cond, ◌||◌}
 use mathlib.Core.Option.{none, some}
 use mathlib.Core.List.{List}
-use native.Mathlib.Omega.{arith}
 use lib.ListN.{get_or}
 use lib.Dec.{ltb}
 use Rattle.ordered_bytes.specs.Receiver.{is_held, place_at, base, available}
-use Rattle.ordered_bytes.specs.Buffer.{Buffer, slots, width, slot_at, view, well_formed}
-use Rattle.ordered_bytes.proofs.WellFormed.{Good, good}
+use Rattle.ordered_bytes.specs.Buffer.{Buffer, slots, width, slot_at, view}
+use Rattle.ordered_bytes.proofs.WellFormed.{Good}
 use Rattle.slots.proofs.Ring.{wrap-zero}
 use Rattle.ordered_bytes.proofs.View.{held_at, length-carry}
 
@@ -31,12 +30,6 @@ module _ (b : Buffer) where
   pub mark_at : {d : ℕ} → d < slots b → is_held (place_at (view b) d) ≡ get_or b.marks (slot_at b d) false
   mark_at {d} h = ap is_held (held_at b h) ∙ held_mark (get_or b.marks (slot_at b d) false) _
 
-  -- the front number, where the front slot is marked
-  pub base_at : b.state.front_slot < slots b → base (view b) ≡ cond (get_or b.marks b.state.front_slot false) b.state.front_number 0
-  base_at h =
-      let some_slots : 0 < slots b = omega arith in
-      rw (mark_at some_slots, view-front, wrap-zero h)
-
 module _ {b : Buffer} (g : Good b) where
   pub front_at : slot_at b 0 ≡ b.state.front_slot
   front_at = wrap-zero g.front_n
@@ -44,6 +37,10 @@ module _ {b : Buffer} (g : Good b) where
   pub front_mark : is_held (place_at (view b) 0) ≡ get_or b.marks b.state.front_slot false
   front_mark = mark_at b g.shape.some_slots ∙ ap (λ (i : ℕ). get_or b.marks i false) front_at
 
+-- the front number, where the front slot is marked
+pub base_at : (b : Buffer) → Good b → base (view b) ≡ cond (get_or b.marks b.state.front_slot false) b.state.front_number 0
+base_at b g = rw (front_mark g, view-front b)
+
 -- whether there is something to read, by the carry-over's length and the front slot's mark
-pub available_at : (b : Buffer) → well_formed b ≡ true → available (view b) ≡ (ltb 0 b.state.carry_len || get_or b.marks b.state.front_slot false)
-available_at b well = let g = good well in rw (length-carry g, front_mark g)
+pub available_at : (b : Buffer) → Good b → available (view b) ≡ (ltb 0 b.state.carry_len || get_or b.marks b.state.front_slot false)
+available_at b g = rw (length-carry g, front_mark g)

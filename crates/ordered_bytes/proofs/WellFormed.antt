@@ -1,6 +1,6 @@
 -- What the tests of refusal 12 say, as plain facts, in both directions: `Shaped` for `shape_fits`, `Good` for `well_formed`.
 -- Assumes nothing.
-use Prim.Native.Nat.{ℕ, zero, suc, ◌+◌, ◌*◌, ◌≤◌, ◌<◌}
+use Prim.Native.Nat.{ℕ, zero, suc, ◌+◌, ◌≤◌, ◌<◌}
 use mathlib.Core.Path.{◌≡◌, refl}
 use mathlib.Core.Bool.{Bool, true, false, not, ◌&&◌, ◌||◌, and-eq-true_iff}
 use mathlib.Core.Option.{Option, none}
@@ -13,7 +13,8 @@ use borrow.Author.Tests.{ltb-true, leb-true, eqb-true, lt-ltb, le-leb, eq-eqb}
 use Rattle.lists.specs.Numbers.{largest}
 use Rattle.lists.proofs.Within.{within, is_within}
 use Rattle.ordered_bytes.specs.Receiver.{is_held, numbers_fit}
-use Rattle.ordered_bytes.specs.Buffer.{Buffer, slots, width, view, between, shape_fits, well_formed}
+use Rattle.ordered_bytes.specs.Buffer.{Buffer, width, view, between, shape_fits, well_formed}
+pub use Rattle.ordered_bytes.specs.Good.{Shaped, Good}
 
 -- both tests hold, and from both
 both : {a b : Bool} → (a && b) ≡ true → (a ≡ true) × (b ≡ true)
@@ -27,15 +28,6 @@ bounds least most n e = let r = both e in (leb-true least n r.0, leb-true n most
 
 is_between : {least most n : ℕ} → least ≤ n → n ≤ most → between least most n ≡ true
 is_between p q = and (le-leb _ _ p) (le-leb _ _ q)
-
--- what `new` asks of the shape
-pub record Shaped (w : ℕ) (marks : List Bool) (lengths store : List ℕ) : Type 0 where
-  pub some_slots : 1 ≤ length marks
-  pub few_slots : length marks ≤ 2000
-  pub some_width : 1 ≤ w
-  pub small_width : w ≤ 65535
-  pub lengths_n : length lengths ≡ length marks
-  pub store_n : length store ≡ (length marks + 1) * w
 
 pub shaped : (w : ℕ) (marks : List Bool) (lengths store : List ℕ) → shape_fits w marks lengths store ≡ true → Shaped w marks lengths store
 shaped w marks lengths store e =
@@ -79,14 +71,6 @@ is_fits n [] f = refl
 is_fits n (p ∷ held) f =
     and (is_held_fits (is_held p) n (λ h. rw add-zero at (f 0 h)))
     (is_fits (suc n) held (λ d h. rw (add-suc, ← suc-add) at (f (suc d) h)))
-
--- what every call but `new` asks of the state
-pub record Good (b : Buffer) : Type 0 where
-  pub shape : Shaped (width b) b.marks b.lengths b.store
-  pub front_n : b.state.front_slot < slots b
-  pub carry_w : b.state.carry_len ≤ width b
-  pub lengths_w : (i : ℕ) → get_or b.lengths i 0 ≤ width b
-  pub numbers : (d : ℕ) → is_held (get_or (view b).held d none) ≡ true → b.state.front_number + d < largest
 
 pub good : {b : Buffer} → well_formed b ≡ true → Good b
 unfolding well_formed

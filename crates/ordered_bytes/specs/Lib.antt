@@ -2,3 +2,4 @@ pub mod Receiver
 pub mod Buffer
 pub mod Calls
 pub mod Steps
+pub mod Good

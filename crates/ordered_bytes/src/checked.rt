@@ -4,22 +4,23 @@ ghost use Rattle.std.specs.Prelude.{◌≡◌, true, false, Err, ◌<◌, length
 ghost use Rattle.refusal.specs.declared.Refusal.TheVariants.{Malformed};
 ghost use Rattle.refusal.specs.Said.{says};
 ghost use Rattle.ordered_bytes.specs.Receiver.{base};
-ghost use Rattle.ordered_bytes.specs.Buffer.{buffer_in, view, well_formed, slot_at};
+ghost use Rattle.ordered_bytes.specs.Buffer.{buffer_in, buffer_now, view, well_formed, slot_at};
+ghost use Rattle.ordered_bytes.specs.Good.{Good};
 ghost use Rattle.ordered_bytes.specs.Calls.{peeking};
 ghost use Rattle.ordered_bytes.specs.Steps.{InRing, CarryAt};
 
-use crate::BufferView;
+use crate::{BufferView, BufferViewMut};
 use refusal::Refusal;
 
 #[derive(Clone, Copy)]
 pub struct Checked<'a> {
     pub view: BufferView<'a>,
-    ghost passed: { well_formed (buffer_in view) ≡ true },
+    ghost good: { Good (buffer_in view) },
 }
 
 impl<'a> BufferView<'a> {
     // Refusal 12, or a view that needs no further test.
-    pub(crate) fn checked(&self) -> Result<Checked<'a>, Refusal>
+    pub fn checked(&self) -> Result<Checked<'a>, Refusal>
         ensures ok { OnOk result (well_formed (buffer_in self.now) ≡ true) }
         ensures same { IfOk result (λ checked. checked.view ≡ self.now) }
         ensures err { OnErr result ((well_formed (buffer_in self.now) ≡ false) × (result ≡ Err Malformed)) }
@@ -32,9 +33,24 @@ impl<'a> BufferView<'a> {
     }
 }
 
+impl BufferViewMut<'_> {
+    // Of a buffer that has passed the test before.
+    pub(crate) fn assume_checked(&self) -> Checked<'_>
+        requires { well_formed (buffer_now self.now) ≡ true }
+        ensures good { Good (buffer_now self.now) }
+        ensures whole { buffer_in result.view ≡ buffer_now self.now }
+        ensures state { result.view.state ≡ self.now.state }
+        ensures marks { result.view.marks.now ≡ self.now.marks.now }
+        ensures store { result.view.store.now ≡ self.now.store.now }
+    {
+        Checked { view: self.view() }
+    }
+}
+
 impl Checked<'_> {
     // "Base is the front packet's number before the walk, or 0 if none is held."
-    pub fn base_packet_number(&self) -> u64
+    #[tactic(auto, using(crate::proofs::Places::base_at))]
+    pub(crate) fn base_packet_number(&self) -> u64
         ensures { result ≡ base (view (buffer_in self.now.view)) }
     {
         let state = self.view.state;
@@ -46,7 +62,7 @@ impl Checked<'_> {
     }
 
     // "Yes if carry-over or the front slot is held".
-    #[tactic(auto, using(crate::proofs::Places::available_at), unfolding(crate::specs::Calls::peeking))]
+    #[tactic(auto, using(crate::proofs::WellFormed::is_good, crate::proofs::Places::available_at), unfolding(crate::specs::Calls::peeking))]
     pub fn peek(&self) -> Result<(), Refusal>
         ensures { says (λ u. u) result ≡ peeking (buffer_in self.now.view) }
     {
@@ -59,7 +75,7 @@ impl Checked<'_> {
     }
 
     // The slot at a distance from the front.
-    pub fn slot_at(&self, distance: usize) -> usize
+    pub(crate) fn slot_at(&self, distance: usize) -> usize
         requires { distance < length self.now.view.marks.now }
         ensures value { result ≡ slot_at (buffer_in self.now.view) distance }
         ensures in_ring { InRing (buffer_in self.now.view) result }
@@ -68,7 +84,7 @@ impl Checked<'_> {
     }
 
     // Where the carry-over stands in the store.
-    pub fn carry_at(&self) -> usize
+    pub(crate) fn carry_at(&self) -> usize
         ensures { CarryAt (buffer_in self.now.view) result }
     {
         self.view.marks.len() * self.view.state.slot_width

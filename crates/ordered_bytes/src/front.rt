@@ -6,10 +6,10 @@ ghost use Rattle.ordered_bytes.specs.Buffer.{buffer_now, well_formed, taken, Sam
 ghost use Rattle.ordered_bytes.specs.Steps.{held_payloads};
 
 use crate::BufferViewMut;
-use crate::checked::Checked;
 
 impl BufferViewMut<'_> {
     // Takes packets from the front out of their slots, and makes a part of the store the carry-over.
+    #[tactic(auto, using(crate::proofs::Given::payloads_fit, crate::proofs::Payloads::held_few))]
     pub(crate) fn take_packets(&mut self, packets: usize, rest_at: usize, rest: usize)
         requires passed { well_formed (buffer_now self.old) ≡ true }
         requires all_held { length (held_payloads (buffer_now self.old) packets) ≡ packets }
@@ -17,7 +17,7 @@ impl BufferViewMut<'_> {
         ensures lent { SameLent self.old self.new }
         ensures value { buffer_now self.new ≡ taken (buffer_now self.old) packets (take rest (drop rest_at self.old.store.now)) }
     {
-        let carry_at = Checked { view: self.view() }.carry_at();
+        let carry_at = self.assume_checked().carry_at();
         parts::move_part(self.store, rest_at, rest, carry_at);
         let front_slot = self.state.front_slot;
         slots::take_slots(front_slot, packets, self.marks, self.lengths);

@@ -11,7 +11,7 @@ ghost use Rattle.ordered_bytes.specs.Buffer.{buffer_in, buffer_now, well_formed,
 ghost use Rattle.ordered_bytes.specs.Calls.{creation_of, creating, starting, accepted_says, acceptance_of, accepting, peeking};
 ghost use Rattle.ordered_bytes.specs.Calls.{consumption_of, consuming, piece_consumption_of, consuming_bytes};
 
-use crate::checked::Checked;
+pub use checked::Checked;
 use lists::LARGEST;
 use refusal::Refusal;
 pub use slots::SlotLength;
@@ -114,7 +114,7 @@ impl OrderedBytes {
 
 impl BufferView<'_> {
     // net/ordered_bytes.rs, OrderedBytes::set_start_packet_number, which has no refusal.
-    #[tactic(auto, unfolding(crate::specs::Calls::starting))]
+    #[tactic(auto, using(crate::proofs::WellFormed::good), unfolding(crate::specs::Calls::starting))]
     pub fn set_start_packet_number(&self, start_packet_number: u64) -> Result<OrderedBytes, Refusal>
         ensures { says (λ o. o) result ≡ starting (buffer_in self.now) start_packet_number }
     {
@@ -135,19 +135,14 @@ impl BufferView<'_> {
     {
         self.checked()?.peek()
     }
-
-    // The same without refusal 12's test.
-    pub fn peek_unchecked(&self) -> Result<(), Refusal>
-        requires { well_formed (buffer_in self.now) ≡ true }
-        ensures { says (λ u. u) result ≡ peeking (buffer_in self.now) }
-    {
-        Checked { view: *self }.peek()
-    }
 }
 
 impl BufferViewMut<'_> {
     pub fn view(&self) -> BufferView<'_>
-        ensures { buffer_in result ≡ buffer_now self.now }
+        ensures whole { buffer_in result ≡ buffer_now self.now }
+        ensures state { result.state ≡ self.now.state }
+        ensures marks { result.marks.now ≡ self.now.marks.now }
+        ensures store { result.store.now ≡ self.now.store.now }
     {
         BufferView {
             state: self.state,
@@ -169,6 +164,7 @@ impl BufferViewMut<'_> {
     }
 
     // The same without refusal 12's test.
+    #[tactic(auto, using(crate::proofs::Accept::accepting_below, crate::proofs::Accept::accepting_beyond, crate::proofs::Accept::accepting_near))]
     pub fn buffer_in_packet_unchecked(&mut self, n: u64, payload: &[u8]) -> Result<(), AcceptError>
         requires { well_formed (buffer_now self.old) ≡ true }
         ensures lent { SameLent self.old self.new }
@@ -189,7 +185,7 @@ impl BufferViewMut<'_> {
         if n == LARGEST {
             return Err(Refusal::Exhausted.into());
         }
-        let slot = Checked { view: self.view() }.slot_at(distance as usize);
+        let slot = self.assume_checked().slot_at(distance as usize);
         if self.marks[slot] {
             return Err(Refusal::AlreadyHeld.into());
         }
@@ -230,7 +226,7 @@ impl BufferViewMut<'_> {
         if buf.len() < len {
             return Err(Refusal::BufferShort);
         }
-        let read = Checked { view: self.view() }.read_bytes(len, buf);
+        let read = self.assume_checked().read_bytes(len, buf);
         self.take_packets(read.packets, read.rest_at, read.rest);
         read.answer
     }
@@ -263,7 +259,7 @@ impl BufferViewMut<'_> {
         ensures value { piece_consumption_of result self.new buf.new list.new
             ≡ consuming_bytes (buffer_now self.old) limit buf.old list.old }
     {
-        let checked = Checked { view: self.view() };
+        let checked = self.assume_checked();
         let (taken, pieces) = checked.count_pieces(limit);
         if (buf.len() as u64) < taken.bytes_consumed || list.len() < pieces {
             return Err(Refusal::BufferShort);

@@ -46,7 +46,7 @@ impl Checked<'_> {
     }
 
     // "carry-over is one piece, then held packets while pieces are fewer than the limit": what they give, and how many they are.
-    pub fn count_pieces(&self, limit: usize) -> (ConsumeResult, usize)
+    pub(crate) fn count_pieces(&self, limit: usize) -> (ConsumeResult, usize)
         ensures { PiecesCounted (buffer_in self.now.view) limit result.0 result.1 }
     {
         let first = self.carry_pieces();
@@ -92,7 +92,7 @@ impl Checked<'_> {
     }
 
     // Copies the carry-over and the payloads of `packets` held packets, and the lengths of all pieces.
-    pub fn copy_pieces(&self, packets: usize, buf: &mut [u8], list: &mut [u32])
+    pub(crate) fn copy_pieces(&self, packets: usize, buf: &mut [u8], list: &mut [u32])
         requires all_held { length (held_payloads (buffer_in self.now.view) packets) ≡ packets }
         requires room_for { RoomFor (pieces_of (buffer_in self.now.view) packets) buf.old 0 list.old 0 }
         ensures { PiecesCopied (pieces_of (buffer_in self.now.view) packets) buf.old buf.new 0 list.old list.new 0 }

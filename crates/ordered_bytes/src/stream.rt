@@ -22,7 +22,7 @@ struct Walked {
 
 // What a read copied: its answer, the packets that it took, refused or not, and where the new carry-over stands.
 #[derive(Clone, Copy)]
-pub struct BytesRead {
+pub(crate) struct BytesRead {
     pub answer: Result<ConsumeResult, Refusal>,
     pub packets: usize,
     pub rest_at: usize,
@@ -64,7 +64,7 @@ impl Checked<'_> {
 
     // A carry-over longer than the length gives its first bytes, with "0 packets, base 0", and answers also for length 0. Otherwise it goes whole, and held
     // packets follow.
-    pub fn read_bytes(&self, len: usize, buf: &mut [u8]) -> BytesRead
+    pub(crate) fn read_bytes(&self, len: usize, buf: &mut [u8]) -> BytesRead
         requires { len ≤ length buf.old }
         ensures { ReadCopied (buffer_in self.now.view) len buf.old buf.new result }
     {

@@ -1,7 +1,6 @@
 -- A turn copies the payload of a slot of the ring, for which there is room.
 use Rattle.std.proofs.Common.{arith}
 use Rattle.ordered_bytes.specs.Buffer.{buffer_in}
-use Rattle.ordered_bytes.proofs.WellFormed.{good}
 use Rattle.ordered_bytes.proofs.Payloads.{held_below, copying_fits, copying_turn, copying_done}
 use Rattle.ordered_bytes.proofs.checked.Checked.copy_payloads.Goals as goal
 
@@ -13,12 +12,12 @@ copy_part-requires c =
     let r = c.slot_at-slot.ensures in (
       omega arith,
       omega arith,
-      copying_fits (good c.args.self.now.passed) c.requires.all_held c.requires.room_for c.loop-distance.invariant c.loop-distance-test.true r.value,
+      copying_fits c.args.self.now.good c.requires.all_held c.requires.room_for c.loop-distance.invariant c.loop-distance-test.true r.value,
     )
 
 pub loop-distance-preserved : goal.loop-distance-preserved
 loop-distance-preserved c =
-    copying_turn (good c.args.self.now.passed) c.requires.all_held c.requires.room_for c.loop-distance.invariant c.loop-distance-test.true c.slot_at-slot.ensures.value
+    copying_turn c.args.self.now.good c.requires.all_held c.requires.room_for c.loop-distance.invariant c.loop-distance-test.true c.slot_at-slot.ensures.value
     c.copy_part.ensures
 
 pub returns : goal.returns

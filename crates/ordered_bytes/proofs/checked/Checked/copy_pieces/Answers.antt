@@ -4,7 +4,6 @@ use mathlib.Core.List.{flatten}
 use borrow.Author.Tests.{eq-eqb, ne_eqb}
 use Rattle.ordered_bytes.specs.Buffer.{buffer_in, view}
 use Rattle.ordered_bytes.specs.Steps.{held_payloads}
-use Rattle.ordered_bytes.proofs.WellFormed.{good}
 use Rattle.ordered_bytes.proofs.View.{length-carry}
 use Rattle.ordered_bytes.proofs.Given.{carry_then}
 use Rattle.ordered_bytes.proofs.Walk.{flatten_carry}
@@ -14,24 +13,24 @@ use Rattle.ordered_bytes.proofs.checked.Checked.copy_pieces.Goals.{then-carry_le
 
 pub copy_part-requires : goal.copy_part-requires
 copy_part-requires c =
-    let behind = room_behind (good c.args.self.now.passed) c.args.packets c.args.buf.now c.args.list.now c.requires.room_for in
+    let behind = room_behind c.args.self.now.good c.args.packets c.args.buf.now c.args.list.now c.requires.room_for in
     let at = c.carry_at.ensures in
     (omega arith, omega arith, omega (arith, behind.bytes))
 
 pub bounds-list-0 : goal.bounds-list-0
 bounds-list-0 c =
-    let behind = room_behind (good c.args.self.now.passed) c.args.packets c.args.buf.now c.args.list.now c.requires.room_for in
+    let behind = room_behind c.args.self.now.good c.args.packets c.args.buf.now c.args.list.now c.requires.room_for in
     let cells = rw (ne_eqb c.args.self.now.view.state.carry_len 0 (λ e. omega (arith, c.if-carry_len-gt0.true))) at behind.cells in
     omega (arith, cells)
 
 pub copy_payloads-requires-clause-room_for : goal.copy_payloads-requires-clause-room_for
 copy_payloads-requires-clause-room_for c =
-    let behind = room_behind (good c.args.self.now.passed) c.args.packets c.args.buf.now c.args.list.now c.requires.room_for in
+    let behind = room_behind c.args.self.now.good c.args.packets c.args.buf.now c.args.list.now c.requires.room_for in
     record { bytes = omega (arith, behind.bytes); cells = omega (arith, c.carry_pieces.ensures, behind.cells) }
 
 pub returns : goal.returns
 returns c =
-    let g = good c.args.self.now.passed in
+    let g = c.args.self.now.good in
     let v = c.args.self.now.view in
     let ps = held_payloads (buffer_in v) c.args.packets in
     let behind = room_behind g c.args.packets c.args.buf.now c.args.list.now c.requires.room_for in

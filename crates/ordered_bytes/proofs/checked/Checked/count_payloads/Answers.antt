@@ -1,21 +1,20 @@
 -- A turn counts the payload of a slot of the ring; at the end none is left.
 use Rattle.std.proofs.Common.{inl, inr, arith}
-use Rattle.ordered_bytes.proofs.WellFormed.{good}
 use Rattle.ordered_bytes.proofs.Payloads.{counting_turn, counting_done}
 use Rattle.ordered_bytes.proofs.checked.Checked.count_payloads.Goals as goal
 
 pub overflow_add-counted-in-loop-distance : goal.overflow_add-counted-in-loop-distance
 overflow_add-counted-in-loop-distance c =
     let r = c.slot_at-slot.ensures.in_ring in
-    omega (arith, c.loop-distance.invariant.few, c.loop-distance.invariant.small, (good c.args.self.now.passed).shape.few_slots)
+    omega (arith, c.loop-distance.invariant.few, c.loop-distance.invariant.small, c.args.self.now.good.shape.few_slots)
 
 pub loop-distance-preserved : goal.loop-distance-preserved
 loop-distance-preserved c =
-    counting_turn (good c.args.self.now.passed) c.loop-distance.invariant c.slot_at-slot.ensures.value (omega arith) (omega arith) c.if-not-view-slot.false
+    counting_turn c.args.self.now.good c.loop-distance.invariant c.slot_at-slot.ensures.value (omega arith) (omega arith) c.if-not-view-slot.false
 
 pub returns-after-loop-distance : goal.returns-after-loop-distance
-returns-after-loop-distance c = counting_done (good c.args.self.now.passed) c.loop-distance.invariant (inl (omega arith))
+returns-after-loop-distance c = counting_done c.args.self.now.good c.loop-distance.invariant (inl (omega arith))
 
 pub returns-then-not-view-slot : goal.returns-then-not-view-slot
 returns-then-not-view-slot c =
-    counting_done (good c.args.self.now.passed) c.loop-distance.invariant (inr (omega arith, rw c.slot_at-slot.ensures.value at c.if-not-view-slot.true))
+    counting_done c.args.self.now.good c.loop-distance.invariant (inr (omega arith, rw c.slot_at-slot.ensures.value at c.if-not-view-slot.true))
