@@ -99,16 +99,23 @@ impl OrderedBytes {
     ) -> Result<Self, Refusal>
         ensures { creation_of result marks.new lengths.new ≡ creating slot_width start_packet_number marks.old lengths.old store.now }
     {
-        if !slots::shape_fits(slot_width, marks, lengths, store) {
-            return Err(Refusal::Malformed);
-        }
-        slots::clear_slots(marks, lengths);
-        Ok(Self {
+        let state = Self {
             slot_width,
             front_slot: 0,
             front_number: start_packet_number,
             carry_len: 0,
-        })
+        };
+        let view = BufferView {
+            state,
+            marks,
+            lengths,
+            store,
+        };
+        if !view.shape_fits() {
+            return Err(Refusal::Malformed);
+        }
+        slots::clear_slots(marks, lengths);
+        Ok(state)
     }
 }
 
@@ -192,14 +199,7 @@ impl BufferViewMut<'_> {
         if self.state.slot_width < payload.len() {
             return Err(Refusal::OutOfRange.into());
         }
-        slots::store_in(
-            slot,
-            self.state.slot_width,
-            payload,
-            self.marks,
-            self.lengths,
-            self.store,
-        );
+        self.store_in(slot, payload);
         Ok(())
     }
 

@@ -2,12 +2,29 @@
 // Proved: each test is the definition's.
 ghost use Rattle.std.specs.Prelude.{◌≡◌, ◌≤◌, ◌<◌, length, drop};
 ghost use Rattle.ordered_bytes.specs.Receiver.{numbers_fit, any_held};
-ghost use Rattle.ordered_bytes.specs.Buffer.{buffer_in, view, well_formed};
+ghost use Rattle.ordered_bytes.specs.Buffer.{buffer_in, view, shape_fits, well_formed};
 
 use crate::{BufferView, OrderedBytes, SlotLength};
 use lists::LARGEST;
 
+// net/ordered_bytes.rs, MAX_BUFFER_SIZE: the most slots.
+const MAX_BUFFER_SIZE: usize = 2000;
+
+const MAX_SLOT_WIDTH: usize = 65535;
+
 impl BufferView<'_> {
+    // N, W and the lent lists' lengths.
+    pub(crate) fn shape_fits(&self) -> bool
+        ensures { result ≡ shape_fits self.now.state.slot_width self.now.marks.now self.now.lengths.now self.now.store.now }
+    {
+        let n = self.marks.len();
+        let slot_width = self.state.slot_width;
+        (1..=MAX_BUFFER_SIZE).contains(&n)
+            && (1..=MAX_SLOT_WIDTH).contains(&slot_width)
+            && self.lengths.len() == n
+            && self.store.len() == (n + 1) * slot_width
+    }
+
     #[tactic(auto, unfolding(crate::specs::Buffer::well_formed))]
     pub fn well_formed(&self) -> bool
         ensures { result ≡ well_formed (buffer_in self.now) }
@@ -18,7 +35,7 @@ impl BufferView<'_> {
             carry_len,
             ..
         } = self.state;
-        slots::shape_fits(slot_width, self.marks, self.lengths, self.store)
+        self.shape_fits()
             && front_slot < self.marks.len()
             && carry_len <= slot_width
             && slots::lengths_within(slot_width as SlotLength, self.lengths)
