@@ -11,29 +11,27 @@ use lib.ListN.{length, get_or}
 use lib.Dec.{ltb}
 use borrow.Author.Tests.{ltb-true, leb-true, eqb-true, lt-ltb, le-leb, eq-eqb}
 use Rattle.lists.specs.Numbers.{largest}
+use Rattle.lists.proofs.Tests.{both}
 use Rattle.lists.proofs.Within.{within, is_within}
 use Rattle.ordered_bytes.specs.Receiver.{is_held, numbers_fit}
 use Rattle.ordered_bytes.specs.Buffer.{Buffer, width, view, between, shape_fits, well_formed}
 pub use Rattle.ordered_bytes.specs.Good.{Shaped, Good}
 
--- both tests hold, and from both
-both : {a b : Bool} → (a && b) ≡ true → (a ≡ true) × (b ≡ true)
-both {a} {b} e = (and-eq-true_iff a b).0 e
-
+-- from two tests that hold
 and : {a b : Bool} → a ≡ true → b ≡ true → (a && b) ≡ true
 and {a} {b} p q = (and-eq-true_iff a b).1 (p, q)
 
 bounds : (least most n : ℕ) → between least most n ≡ true → (least ≤ n) × (n ≤ most)
-bounds least most n e = let r = both e in (leb-true least n r.0, leb-true n most r.1)
+bounds least most n e = let r = both _ _ e in (leb-true least n r.0, leb-true n most r.1)
 
 is_between : {least most n : ℕ} → least ≤ n → n ≤ most → between least most n ≡ true
 is_between p q = and (le-leb _ _ p) (le-leb _ _ q)
 
 pub shaped : (w : ℕ) (marks : List Bool) (lengths store : List ℕ) → shape_fits w marks lengths store ≡ true → Shaped w marks lengths store
 shaped w marks lengths store e =
-    let n = both e in
-    let m = both n.1 in
-    let l = both m.1 in
+    let n = both _ _ e in
+    let m = both _ _ n.1 in
+    let l = both _ _ m.1 in
     let slots = bounds 1 2000 (length marks) n.0 in
     let wide = bounds 1 65535 w m.0 in
     record {
@@ -62,8 +60,8 @@ is_held_fits true n f = lt-ltb n largest (f refl)
 pub fits : (n : ℕ) (held : List (Option (List ℕ))) → numbers_fit n held ≡ true → (d : ℕ) → is_held (get_or held d none) ≡ true → n + d < largest
 unfolding numbers_fit
 fits n [] e d h = absurd (let z : ◌≡◌ {A = ℕ} 0 1 = cc in omega arith)
-fits n (p ∷ held) e zero h = rw add-zero (held_fits p n (both e).0 h)
-fits n (p ∷ held) e (suc d) h = rw (add-suc, ← suc-add) (fits (suc n) held (both {a = not (is_held p) || ltb n largest} e).1 d h)
+fits n (p ∷ held) e zero h = rw add-zero (held_fits p n (both _ _ e).0 h)
+fits n (p ∷ held) e (suc d) h = rw (add-suc, ← suc-add) (fits (suc n) held (both (not (is_held p) || ltb n largest) _ e).1 d h)
 
 pub is_fits : (n : ℕ) (held : List (Option (List ℕ))) → ((d : ℕ) → is_held (get_or held d none) ≡ true → n + d < largest) → numbers_fit n held ≡ true
 unfolding numbers_fit
@@ -75,10 +73,10 @@ is_fits n (p ∷ held) f =
 pub good : {b : Buffer} → well_formed b ≡ true → Good b
 unfolding well_formed
 good {b} e =
-    let s = both e in
-    let f = both s.1 in
-    let c = both f.1 in
-    let l = both c.1 in
+    let s = both _ _ e in
+    let f = both _ _ s.1 in
+    let c = both _ _ f.1 in
+    let l = both _ _ c.1 in
     record {
       shape = shaped (width b) b.marks b.lengths b.store s.0;
       front_n = ltb-true _ _ f.0;

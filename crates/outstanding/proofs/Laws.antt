@@ -12,7 +12,7 @@ use borrow.Author.Tests.{ltb-true, leb-true, leb-false, lt-ltb, le-ltb, le-leb}
 use Rattle.refusal.specs.Said.{answers, refuses}
 use Rattle.lists.specs.Rising.{rising}
 use Rattle.lists.specs.Within.{all_within}
-use Rattle.lists.proofs.Part.{take-drop}
+use Rattle.std.proofs.lemmas.List.{drop-take}
 use Rattle.lists.proofs.Rising.{first_last}
 use Rattle.lists.proofs.Tests.{both}
 use Rattle.header.specs.Header.{header_bytes}
@@ -35,7 +35,7 @@ module _ {A : Type 0} where
   take-front d c n l h =
       let part : length (take (c - n) (drop n d)) ≡ c - n = length-take-le (c - n) (drop n d) (rw length-drop (omega arith)) in
       let sum : n + (c - n) ≡ c = omega arith in
-      take_at (take (c - n) (drop n d)) (drop (0 + (c - n)) d) (c - n) part ∙ take-drop n (c - n) d ∙ rw sum
+      take_at (take (c - n) (drop n d)) (drop (0 + (c - n)) d) (c - n) part ∙ sym (drop-take n (c - n) d) ∙ rw sum
 
   length_front : (d : List A) (a n : ℕ) → a + n ≤ length d → length (paste d 0 (drop a d) n) ≡ length d
   length_front d a n h = length-paste d 0 (drop a d) n (omega arith) (rw length-drop (omega arith))

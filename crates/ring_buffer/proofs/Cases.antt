@@ -2,7 +2,7 @@
 -- Assumes nothing.
 use Prim.Native.Nat.{ℕ}
 use mathlib.Core.Path.{◌≡◌}
-use mathlib.Core.Bool.{true, false}
+use mathlib.Core.Bool.{true}
 use mathlib.Core.List.{List}
 use mathlib.Core.Option.{none, some}
 use lib.ListN.{length, get_or, set}
@@ -12,51 +12,31 @@ use Rattle.ring_buffer.specs.Ring.{blank, well_formed, before, grown_back, grown
 use Rattle.ring_buffer.specs.declared.AckData.{AckData}
 use Rattle.ring_buffer.specs.declared.RingBuffer.{RingBuffer}
 
-module _ (g : RingBuffer) (ys : List AckData) (c : ℕ) (e : length ys ≡ c) where
-  module _ (w : well_formed g c ≡ false) where
-    pub back_malformed : (a : AckData) → push_back g ys a ≡ leaves (refuses 12) g ys
-    back_malformed a = simp (e, w)
+module _ (g : RingBuffer) (ys : List AckData) (c : ℕ) (e : length ys ≡ c) (w : well_formed g c ≡ true) where
+  module _ (full : g.len ≡ c) (a : AckData) where
+    pub back_full : push_back g ys a ≡ leaves (answers (some a)) g ys
+    back_full = simp (e, w, eq-eqb g.len c full)
 
-    pub front-malformed : (a : AckData) → push_front g ys a ≡ leaves (refuses 12) g ys
-    front-malformed a = simp (e, w)
+    pub front-full : push_front g ys a ≡ leaves (answers (some a)) g ys
+    front-full = simp (e, w, eq-eqb g.len c full)
 
-    pub pop_malformed : pop_front g ys ≡ leaves (refuses 12) g ys
-    pop_malformed = simp (e, w)
+  module _ (free : g.len ≡ c → ⊥) (a : AckData) where
+    pub back_stored : push_back g ys a ≡ leaves (answers none) (grown_back g c) (set ys g.tail a)
+    back_stored = simp (e, w, ne_eqb g.len c free)
 
-    pub peek_malformed : front g ys ≡ refuses 12
-    peek_malformed = simp (e, w)
+    pub front-stored : push_front g ys a ≡ leaves (answers none) (grown_front g c) (set ys (before c g.head) a)
+    front-stored = simp (e, w, ne_eqb g.len c free)
 
-    pub clear-malformed : clear g ys ≡ leaves (refuses 12) g ys
-    clear-malformed = simp (e, w)
+  module _ (none : g.len ≡ 0) where
+    pub pop_empty : pop_front g ys ≡ leaves (refuses 8) g ys
+    pop_empty = simp (e, w, eq-eqb g.len 0 none)
 
-  module _ (w : well_formed g c ≡ true) where
-    module _ (full : g.len ≡ c) (a : AckData) where
-      pub back_full : push_back g ys a ≡ leaves (answers (some a)) g ys
-      back_full = simp (e, w, eq-eqb g.len c full)
+  module _ (held : g.len ≡ 0 → ⊥) where
+    pub pop_held : pop_front g ys ≡ leaves (answers (get_or ys g.head blank)) (popped g c 1) (set ys g.head blank)
+    pop_held = simp (e, w, ne_eqb g.len 0 held)
 
-      pub front-full : push_front g ys a ≡ leaves (answers (some a)) g ys
-      front-full = simp (e, w, eq-eqb g.len c full)
+    pub peek_held : front g ys ≡ answers (get_or ys g.head blank)
+    peek_held = simp (e, w, ne_eqb g.len 0 held)
 
-    module _ (free : g.len ≡ c → ⊥) (a : AckData) where
-      pub back_stored : push_back g ys a ≡ leaves (answers none) (grown_back g c) (set ys g.tail a)
-      back_stored = simp (e, w, ne_eqb g.len c free)
-
-      pub front-stored : push_front g ys a ≡ leaves (answers none) (grown_front g c) (set ys (before c g.head) a)
-      front-stored = simp (e, w, ne_eqb g.len c free)
-
-    module _ (none : g.len ≡ 0) where
-      pub pop_empty : pop_front g ys ≡ leaves (refuses 8) g ys
-      pop_empty = simp (e, w, eq-eqb g.len 0 none)
-
-      pub peek_empty : front g ys ≡ refuses 8
-      peek_empty = simp (e, w, eq-eqb g.len 0 none)
-
-    module _ (held : g.len ≡ 0 → ⊥) where
-      pub pop_held : pop_front g ys ≡ leaves (answers (get_or ys g.head blank)) (popped g c 1) (set ys g.head blank)
-      pop_held = simp (e, w, ne_eqb g.len 0 held)
-
-      pub peek_held : front g ys ≡ answers (get_or ys g.head blank)
-      peek_held = simp (e, w, ne_eqb g.len 0 held)
-
-    pub clear_well : clear g ys ≡ leaves (answers tt) (popped g c g.len) (blanked g.head g.len ys)
-    clear_well = simp (e, w)
+  pub clear_well : clear g ys ≡ leaves (answers tt) (popped g c g.len) (blanked g.head g.len ys)
+  clear_well = simp (e, w)

@@ -21,9 +21,11 @@ use Rattle.lists.specs.Numbers.{largest}
 use Rattle.refusal.specs.Said.{answers, refuses, checks}
 use Rattle.lists.proofs.Tests.{both}
 use Rattle.lists.proofs.Rising.{first_last}
-use Rattle.lists.proofs.Paste.{length_part, paste_all, paste_behind}
+use Rattle.lists.proofs.Paste.{length_part, drop_pasted, paste_behind}
 use Rattle.lists.proofs.Taken.{paste-taken}
-use Rattle.lists.proofs.Shift.{drop-take, take_before_paste, drop_at_paste}
+use Rattle.lists.proofs.Shift.{take_before_paste}
+use Rattle.lists.proofs.Take.{drop-take}
+use Rattle.std.proofs.lemmas.List.Edits.{paste_all}
 use Rattle.window.specs.declared.SlidingWindow.{SlidingWindow}
 use Rattle.window.specs.Window.{window_size, Outcome, refused, expected, held, too_few, member, rising, holdable, all_holdable, place, numbers, stored}
 use Rattle.window.specs.Window.{well_formed, stored_cells, grown, before_held, store_before, store_run, insert_packet_number, run_length}
@@ -156,7 +158,7 @@ stored_is cells shifted left b k count at q h l s t =
     let e : at + k + (count - at) ≡ count + k = omega arith in
     let all : take k (numbers b k) ≡ numbers b k = rw (length-numbers b k) at (take-length (numbers b k)) in
     let front = take_before_paste cells (drop at cells) (at + k) (count - at) at (omega arith) (omega arith) in
-    let back = drop_at_paste cells (drop at cells) (at + k) (count - at) (omega arith) in
+    let back = drop_pasted cells (at + k) (drop at cells) (count - at) (omega arith) in
     rw (t, s, front, back, e, all, ← q, take-take at count cells h, drop-take at count cells)
     (sym (append_assoc (take at cells ++ numbers b k) (take (count - at) (drop at cells)) (drop (count + k) cells)))
 
@@ -223,4 +225,4 @@ consumed_is cells k count {copied} {zeros} h l m s z =
     let cleared : zeros ≡ blank = z ∙ ap (λ (n : ℕ). replicate n 0) (rw back (length_part copied (count - k) k (omega arith))) in
     put_mid-paste (count - k) (count - (count - k)) copied zeros blank (length blank) cleared (len ∙ sym back) refl
     ∙ rw moved
-    (paste_behind cells rest blank 0 (count - k) (omega arith) (omega arith) ∙ paste_all cells 0 (rest ++ blank) ∙ rw (all, drop-take k count cells))
+    (paste_behind cells rest blank 0 (count - k) (omega arith) (omega arith) ∙ paste_all cells 0 (rest ++ blank) _ refl ∙ rw (all, drop-take k count cells))
