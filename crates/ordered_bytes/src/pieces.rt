@@ -62,6 +62,7 @@ impl Checked<'_> {
     }
 
     // Copies the payloads of packets held from the front on to `buf` from `at` on, and their lengths to `list` from `first` on.
+    #[tactic(auto, using(crate::proofs::Payloads::held_few))]
     fn copy_payloads(
         &self,
         packets: usize,

@@ -1,11 +1,7 @@
 -- A turn copies the payload of a slot of the ring, for which there is room.
 use Rattle.std.proofs.Common.{arith}
-use Rattle.ordered_bytes.specs.Buffer.{buffer_in}
-use Rattle.ordered_bytes.proofs.Payloads.{held_below, copying_fits, copying_turn, copying_done}
+use Rattle.ordered_bytes.proofs.Payloads.{copying_fits, copying_turn, copying_done}
 use Rattle.ordered_bytes.proofs.checked.Checked.copy_payloads.Goals as goal
-
-pub slot_at-slot-requires : goal.slot_at-slot-requires
-slot_at-slot-requires c = held_below (buffer_in c.args.self.now.view) c.requires.all_held c.loop-distance-test.true
 
 pub copy_part-requires : goal.copy_part-requires
 copy_part-requires c =

@@ -3,11 +3,6 @@ use Rattle.std.proofs.Common.{inl, inr, arith}
 use Rattle.ordered_bytes.proofs.Payloads.{counting_turn, counting_done}
 use Rattle.ordered_bytes.proofs.checked.Checked.count_payloads.Goals as goal
 
-pub overflow_add-counted-in-loop-distance : goal.overflow_add-counted-in-loop-distance
-overflow_add-counted-in-loop-distance c =
-    let r = c.slot_at-slot.ensures.in_ring in
-    omega (arith, c.loop-distance.invariant.few, c.loop-distance.invariant.small, c.args.self.now.good.shape.few_slots)
-
 pub loop-distance-preserved : goal.loop-distance-preserved
 loop-distance-preserved c =
     counting_turn c.args.self.now.good c.loop-distance.invariant c.slot_at-slot.ensures.value (omega arith) (omega arith) c.if-not-view-slot.false

@@ -6,11 +6,6 @@ use Rattle.ordered_bytes.proofs.Walk.{payloads_most}
 use Rattle.ordered_bytes.proofs.Gathered.{at_most_one, pieces-counted}
 use Rattle.ordered_bytes.proofs.checked.Checked.count_pieces.Goals as goal
 
-pub overflow_add-result : goal.overflow_add-result
-overflow_add-result c =
-    let g = c.args.self.now.good in
-    omega (arith, g.carry_w, g.shape.small_width, c.count_payloads-counted.ensures.few)
-
 pub overflow_add-result-2 : goal.overflow_add-result-2
 overflow_add-result-2 c =
     let b = buffer_in c.args.self.now.view in
