@@ -93,6 +93,7 @@ impl Checked<'_> {
     }
 
     // Copies the carry-over and the payloads of `packets` held packets, and the lengths of all pieces.
+    #[tactic(auto, using(crate::proofs::Gathered::room_behind))]
     pub(crate) fn copy_pieces(&self, packets: usize, buf: &mut [u8], list: &mut [u32])
         requires all_held { length (held_payloads (buffer_in self.now.view) packets) ≡ packets }
         requires room_for { RoomFor (pieces_of (buffer_in self.now.view) packets) buf.old 0 list.old 0 }

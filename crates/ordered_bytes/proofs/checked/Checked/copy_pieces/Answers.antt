@@ -17,17 +17,6 @@ copy_part-requires c =
     let at = c.carry_at.ensures in
     (omega arith, omega arith, omega (arith, behind.bytes))
 
-pub bounds-list-0 : goal.bounds-list-0
-bounds-list-0 c =
-    let behind = room_behind c.args.self.now.good c.args.packets c.args.buf.now c.args.list.now c.requires.room_for in
-    let cells = rw (ne_eqb c.args.self.now.view.state.carry_len 0 (λ e. omega (arith, c.if-carry_len-gt0.true))) at behind.cells in
-    omega (arith, cells)
-
-pub copy_payloads-requires-clause-room_for : goal.copy_payloads-requires-clause-room_for
-copy_payloads-requires-clause-room_for c =
-    let behind = room_behind c.args.self.now.good c.args.packets c.args.buf.now c.args.list.now c.requires.room_for in
-    record { bytes = omega (arith, behind.bytes); cells = omega (arith, c.carry_pieces.ensures, behind.cells) }
-
 pub returns : goal.returns
 returns c =
     let g = c.args.self.now.good in
