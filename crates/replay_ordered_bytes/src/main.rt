@@ -7,7 +7,7 @@
 
 use ordered_bytes::{BufferView, BufferViewMut, ConsumeResult, OrderedBytes, SlotLength};
 use recorded::Replay;
-use refusal::Refusal;
+use refusal::{Refusal, refusal_in};
 use std::io::{self, Read, Write};
 
 const SLOTS: usize = 2000;
@@ -62,13 +62,12 @@ fn fill_payload(n: u64, payload: &mut [u8]) {
     }
 }
 
-// 0 where a packet as long as the lent payload is stored. The Rust gives no ack where it refuses, so that of 5 is left out.
-fn accept_one(buffer: &mut BufferViewMut<'_>, n: u64, payload: &mut [u8]) -> u64 {
+// Stores a packet as long as the lent payload. The Rust gives no ack where it refuses, so that of 5 is left out.
+fn accept_one(buffer: &mut BufferViewMut<'_>, n: u64, payload: &mut [u8]) -> Result<(), Refusal> {
     fill_payload(n, payload);
-    match buffer.buffer_in_packet(n, payload) {
-        Ok(()) => 0,
-        Err(error) => u64::from(error.refusal().number()),
-    }
+    buffer
+        .buffer_in_packet(n, payload)
+        .map_err(|error| error.refusal())
 }
 
 fn accept(
@@ -78,7 +77,8 @@ fn accept(
     let n = replay.read_word()?;
     let mut payload = [0u8; WIDTH];
     let length = replay.read_length(&payload)?;
-    replay.begin_line(accept_one(buffer, n, &mut payload[..length]))
+    let accepted = accept_one(buffer, n, &mut payload[..length]);
+    replay.begin_line(refusal_in(accepted) as u64)
 }
 
 // Packets of one length in the numbers' order, up to the first refusal.
@@ -91,19 +91,12 @@ fn accept_run(
     let mut payload = [0u8; WIDTH];
     let length = replay.read_length(&payload)?;
     for i in 0..count {
-        let refused = accept_one(buffer, first.wrapping_add(i), &mut payload[..length]);
-        if refused != 0 {
-            return write!(replay.answers, "{refused} {i}");
+        let n = first.wrapping_add(i);
+        if let Err(r) = accept_one(buffer, n, &mut payload[..length]) {
+            return write!(replay.answers, "{} {i}", r.number());
         }
     }
     write!(replay.answers, "0 {count}")
-}
-
-fn peek(replay: &mut Replay<impl Read, impl Write>, buffer: BufferView<'_>) -> io::Result<()> {
-    match buffer.peek() {
-        Ok(()) => replay.begin_line(0),
-        Err(r) => replay.begin_line(u64::from(r.number())),
-    }
 }
 
 fn print_result(replay: &mut Replay<impl Read, impl Write>, r: ConsumeResult) -> io::Result<()> {
@@ -221,7 +214,7 @@ fn answer(
         1 => set_start(replay, buffer)?,
         2 => accept(replay, buffer)?,
         3 => accept_run(replay, buffer)?,
-        4 => peek(replay, buffer.view())?,
+        4 => replay.begin_line(refusal_in(buffer.view().peek()) as u64)?,
         5 => consume(replay, buffer)?,
         6 => consume_bytes(replay, buffer)?,
         _ => print_held(replay, buffer.view())?,
