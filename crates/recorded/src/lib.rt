@@ -5,6 +5,7 @@
 
 ghost use Rattle.std.specs.Prelude.{◌≤◌, length, IfOk};
 
+use std::fmt::Display;
 use std::io::{self, BufReader, BufWriter, Input, Print, Printer, Read, Write};
 
 // A record that is replayed: the questions that are left to read, and where their answers go.
@@ -99,21 +100,17 @@ impl<R: Read, W> Replay<R, W> {
 
 impl<R, W: Write> Replay<R, W> {
     // An answer's line begins with its kind: 0, or the number of a refusal, unless the command says otherwise.
-    pub fn begin_line(&mut self, kind: u64) -> io::Result<()> {
+    pub fn begin_line(&mut self, kind: impl Display + Drop) -> io::Result<()> {
         write!(self.answers, "{kind}")
     }
 
-    pub fn print_number(&mut self, n: u64) -> io::Result<()> {
-        write!(self.answers, " {n}")
-    }
-
-    pub fn print_bool(&mut self, b: bool) -> io::Result<()> {
-        self.print_number(b as u64)
+    pub fn print(&mut self, x: impl Display + Drop) -> io::Result<()> {
+        write!(self.answers, " {x}")
     }
 
     pub fn print_bytes(&mut self, bytes: &[u8]) -> io::Result<()> {
         for byte in bytes {
-            write!(self.answers, " {byte}")?;
+            self.print(byte)?;
         }
         Ok(())
     }

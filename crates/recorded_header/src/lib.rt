@@ -64,17 +64,3 @@ impl Display for Numbers<BluefinHeader> {
         )
     }
 }
-
-pub fn print_security(
-    replay: &mut Replay<impl Read, impl Write>,
-    s: BluefinSecurityFields,
-) -> io::Result<()> {
-    write!(replay.answers, " {}", Numbers(s))
-}
-
-pub fn print_header(
-    replay: &mut Replay<impl Read, impl Write>,
-    h: BluefinHeader,
-) -> io::Result<()> {
-    write!(replay.answers, " {}", Numbers(h))
-}

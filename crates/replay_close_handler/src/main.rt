@@ -9,8 +9,8 @@ use std::io::{self, Read, Write};
 
 // 1 and the number, or 0 and 0.
 fn print_maybe(replay: &mut Replay<impl Read, impl Write>, n: Option<u64>) -> io::Result<()> {
-    replay.print_bool(n.is_some())?;
-    replay.print_number(n.unwrap_or(0))
+    replay.print(n.is_some() as u8)?;
+    replay.print(n.unwrap_or(0))
 }
 
 fn print_state(replay: &mut Replay<impl Read, impl Write>, s: CloseState) -> io::Result<()> {
@@ -20,8 +20,8 @@ fn print_state(replay: &mut Replay<impl Read, impl Write>, s: CloseState) -> io:
         CloseState::LocalFinSent(n) => (2, n),
         CloseState::Closed => (3, 0),
     };
-    replay.print_number(kind)?;
-    replay.print_number(n)
+    replay.print(kind)?;
+    replay.print(n)
 }
 
 // The record: state, FIN-ACK owed, FIN-ACK recorded, flag.
@@ -29,13 +29,13 @@ fn print_record(replay: &mut Replay<impl Read, impl Write>, c: CloseBuffer) -> i
     print_state(replay, c.state)?;
     print_maybe(replay, c.pending_fin_ack_send)?;
     print_maybe(replay, c.received_fin_ack_for)?;
-    replay.print_bool(c.peer_fin_observed)
+    replay.print(c.peer_fin_observed as u8)
 }
 
 // The FIN-ACK that an event takes from the record: only event 4 takes one.
 fn begin_event(replay: &mut Replay<impl Read, impl Write>, taken: Option<u64>) -> io::Result<()> {
-    replay.begin_line(taken.is_some() as u64)?;
-    replay.print_number(taken.unwrap_or(0))
+    replay.begin_line(taken.is_some() as u8)?;
+    replay.print(taken.unwrap_or(0))
 }
 
 fn answer(

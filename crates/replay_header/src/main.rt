@@ -5,6 +5,7 @@
 
 use header::{BluefinHeader, BluefinSecurityFields};
 use recorded::Replay;
+use recorded_header::Numbers;
 use std::io::{self, Read, Write};
 
 fn security_serialise(replay: &mut Replay<impl Read, impl Write>) -> io::Result<()> {
@@ -12,9 +13,9 @@ fn security_serialise(replay: &mut Replay<impl Read, impl Write>) -> io::Result<
     match fields.serialise() {
         Ok(b) => {
             replay.begin_line(0)?;
-            replay.print_number(b as u64)
+            replay.print(b)
         }
-        Err(refusal) => replay.begin_line(refusal.number() as u64),
+        Err(refusal) => replay.begin_line(refusal.number()),
     }
 }
 
@@ -24,9 +25,9 @@ fn security_deserialise(replay: &mut Replay<impl Read, impl Write>) -> io::Resul
     match BluefinSecurityFields::deserialise(&buf[..n]) {
         Ok(fields) => {
             replay.begin_line(0)?;
-            recorded_header::print_security(replay, fields)
+            replay.print(Numbers(fields))
         }
-        Err(error) => replay.begin_line(error.refusal.number() as u64),
+        Err(error) => replay.begin_line(error.refusal.number()),
     }
 }
 
@@ -39,9 +40,9 @@ fn serialise_into(replay: &mut Replay<impl Read, impl Write>) -> io::Result<()> 
     match h.serialise_into(out) {
         Ok(n) => {
             replay.begin_line(0)?;
-            replay.print_number(n as u64)?;
+            replay.print(n)?;
         }
-        Err(refusal) => replay.begin_line(refusal.number() as u64)?,
+        Err(refusal) => replay.begin_line(refusal.number())?,
     }
     replay.print_bytes(out)
 }
@@ -52,9 +53,9 @@ fn deserialise(replay: &mut Replay<impl Read, impl Write>) -> io::Result<()> {
     match BluefinHeader::deserialise(&buf[..n]) {
         Ok(h) => {
             replay.begin_line(0)?;
-            recorded_header::print_header(replay, h)
+            replay.print(Numbers(h))
         }
-        Err(error) => replay.begin_line(error.refusal.number() as u64),
+        Err(error) => replay.begin_line(error.refusal.number()),
     }
 }
 

@@ -6,6 +6,7 @@
 use header::BluefinHeader;
 use net::{BluefinHost, ConnectionIds};
 use recorded::Replay;
+use recorded_header::Numbers;
 use refusal::Refusal;
 use std::io::{self, Read, Write};
 
@@ -30,7 +31,7 @@ fn test<F: FnOnce(BluefinHost, BluefinHeader) -> bool>(
     let packet_type = recorded_header::read_type(replay)?;
     let ids = read_ids(replay)?;
     let h = net::build_empty_encrypted_packet(ids, 0, packet_type);
-    replay.begin_line(is_met(host, h) as u64)
+    replay.begin_line(is_met(host, h) as u8)
 }
 
 // The payload's length comes first: a header alone has none.
@@ -40,7 +41,7 @@ fn build_empty(replay: &mut Replay<impl Read, impl Write>) -> io::Result<()> {
     let packet_type = recorded_header::read_type(replay)?;
     let h = net::build_empty_encrypted_packet(ids, number, packet_type);
     replay.begin_line(0)?;
-    recorded_header::print_header(replay, h)
+    replay.print(Numbers(h))
 }
 
 // The bytes written, and each of them.
@@ -54,7 +55,7 @@ fn control<F: FnOnce(ConnectionIds, u64, &mut [u8]) -> Result<usize, Refusal>>(
     let number = replay.read_word()?;
     let mut buf = [9u8; net::BLUEFIN_HEADER_SIZE_BYTES];
     let written = write(ids, number, &mut buf);
-    replay.begin_line(written.unwrap_or(0) as u64)?;
+    replay.begin_line(written.unwrap_or(0))?;
     replay.print_bytes(&buf)
 }
 

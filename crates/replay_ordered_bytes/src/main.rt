@@ -30,7 +30,7 @@ fn take_state(
             buffer.state = state;
             replay.begin_line(0)
         }
-        Err(r) => replay.begin_line(u64::from(r.number())),
+        Err(r) => replay.begin_line(r.number()),
     }
 }
 
@@ -78,7 +78,7 @@ fn accept(
     let mut payload = [0u8; WIDTH];
     let length = replay.read_length(&payload)?;
     let accepted = accept_one(buffer, n, &mut payload[..length]);
-    replay.begin_line(refusal_in(accepted) as u64)
+    replay.begin_line(refusal_in(accepted))
 }
 
 // Packets of one length in the numbers' order, up to the first refusal.
@@ -135,9 +135,9 @@ fn consume(
     let out = &mut buf[..len];
     match buffer.consume(len, out) {
         Ok(result) => print_result(replay, result)?,
-        Err(r) => replay.begin_line(u64::from(r.number()))?,
+        Err(r) => replay.begin_line(r.number())?,
     }
-    replay.print_number(recorded::sum_of(out))
+    replay.print(recorded::sum_of(out))
 }
 
 // How many pieces there are, and their lengths.
@@ -146,9 +146,9 @@ fn print_pieces(
     list: &[u32],
     pieces: usize,
 ) -> io::Result<()> {
-    write!(replay.answers, " {pieces}")?;
+    replay.print(pieces)?;
     for length in list.iter().take(pieces) {
-        write!(replay.answers, " {length}")?;
+        replay.print(length)?;
     }
     Ok(())
 }
@@ -164,12 +164,12 @@ fn consume_bytes(
         Ok((result, pieces)) => {
             print_result(replay, result)?;
             print_pieces(replay, &list, pieces)?;
-            replay.print_number(add_part(0, &buf, 0, result.bytes_consumed as usize))
+            replay.print(add_part(0, &buf, 0, result.bytes_consumed as usize))
         }
         Err(r) => {
-            replay.begin_line(u64::from(r.number()))?;
+            replay.begin_line(r.number())?;
             print_pieces(replay, &list, 0)?;
-            replay.print_number(0)
+            replay.print(0)
         }
     }
 }
@@ -199,9 +199,9 @@ fn print_held(
 }
 
 fn print_state(replay: &mut Replay<impl Read, impl Write>, state: OrderedBytes) -> io::Result<()> {
-    replay.print_number(state.front_number)?;
-    replay.print_number(state.front_slot as u64)?;
-    replay.print_number(state.carry_len as u64)
+    replay.print(state.front_number)?;
+    replay.print(state.front_slot)?;
+    replay.print(state.carry_len)
 }
 
 fn answer(
@@ -214,7 +214,7 @@ fn answer(
         1 => set_start(replay, buffer)?,
         2 => accept(replay, buffer)?,
         3 => accept_run(replay, buffer)?,
-        4 => replay.begin_line(refusal_in(buffer.view().peek()) as u64)?,
+        4 => replay.begin_line(refusal_in(buffer.view().peek()))?,
         5 => consume(replay, buffer)?,
         6 => consume_bytes(replay, buffer)?,
         _ => print_held(replay, buffer.view())?,

@@ -5,6 +5,7 @@
 #![tactic(auto)]
 
 use recorded::Replay;
+use recorded_header::Numbers;
 use refusal::ReadError;
 use std::io::{self, Read, Write};
 
@@ -12,21 +13,21 @@ use std::io::{self, Read, Write};
 const UNWRITTEN: u32 = 0xffff_ffff;
 
 // A parse as it is recorded: its kind, and the number of packets or the cursor.
-fn recorded_as(parsed: Result<usize, ReadError>) -> (u64, u64) {
+fn recorded_as(parsed: Result<usize, ReadError>) -> (u8, usize) {
     match parsed {
-        Ok(n) => (0, n as u64),
-        Err(e) => (e.refusal.number() as u64, e.cursor.unwrap_or(0) as u64),
+        Ok(n) => (0, n),
+        Err(e) => (e.refusal.number(), e.cursor.unwrap_or(0)),
     }
 }
 
 fn print_parsed(
     replay: &mut Replay<impl Read, impl Write>,
-    number: u64,
+    number: usize,
     index: &[u32],
 ) -> io::Result<()> {
-    replay.print_number(number)?;
+    replay.print(number)?;
     for cell in index.iter().take_while(|cell| **cell != UNWRITTEN) {
-        write!(replay.answers, " {cell}")?;
+        replay.print(cell)?;
     }
     Ok(())
 }
@@ -41,7 +42,7 @@ fn parse(replay: &mut Replay<impl Read, impl Write>, datagram: &[u8]) -> io::Res
 fn parse_into(replay: &mut Replay<impl Read, impl Write>, datagram: &[u8]) -> io::Result<()> {
     let mut index = [UNWRITTEN; packet::INDEX_LEN];
     let (kind, number) = recorded_as(packet::from_bytes_into(datagram, &mut index));
-    replay.print_number(kind)?;
+    replay.print(kind)?;
     print_parsed(replay, number, &index)
 }
 
@@ -63,9 +64,9 @@ fn serialise_into(replay: &mut Replay<impl Read, impl Write>) -> io::Result<()> 
     match packet::serialise_into(h, &payload[..n], out) {
         Ok(written) => {
             replay.begin_line(0)?;
-            replay.print_number(written as u64)?;
+            replay.print(written)?;
         }
-        Err(r) => replay.begin_line(r.number() as u64)?,
+        Err(r) => replay.begin_line(r.number())?,
     }
     replay.print_bytes(out)
 }
@@ -73,13 +74,11 @@ fn serialise_into(replay: &mut Replay<impl Read, impl Write>) -> io::Result<()> 
 fn print_read(replay: &mut Replay<impl Read, impl Write>, bytes: &[u8]) -> io::Result<()> {
     match packet::deserialise(bytes) {
         Ok(h) => {
-            replay.begin_line(0)?;
-            recorded_header::print_header(replay, h)?;
             let payload = packet::payload_of(bytes);
-            replay.print_number(payload.len() as u64)?;
+            write!(replay.answers, "0 {} {}", Numbers(h), payload.len())?;
             replay.print_bytes(payload)
         }
-        Err(error) => replay.begin_line(error.refusal.number() as u64),
+        Err(error) => replay.begin_line(error.refusal.number()),
     }
 }
 

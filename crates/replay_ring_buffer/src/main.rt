@@ -26,8 +26,8 @@ fn print_counted(
     counted: Result<usize, Refusal>,
 ) -> io::Result<()> {
     match counted {
-        Ok(n) => replay.print_number(n as u64),
-        Err(r) => replay.print_number(r.number() as u64),
+        Ok(n) => replay.print(n),
+        Err(r) => replay.print(r.number()),
     }
 }
 

@@ -13,10 +13,10 @@ use window::{Run, SlidingWindow, WindowViewMut};
 const CELLS: usize = window::MAX_SLIDING_WINDOW_SIZE as usize;
 
 // The refusal as the Rust tells it.
-fn class(r: Refusal) -> u64 {
+fn class(r: Refusal) -> u8 {
     match r {
         Refusal::AlreadyHeld => 5,
-        _ => u64::from(r.number()),
+        _ => r.number(),
     }
 }
 
@@ -32,10 +32,7 @@ fn begin_answer(
     replay: &mut Replay<impl Read, impl Write>,
     answer: Result<(), Refusal>,
 ) -> io::Result<()> {
-    match answer {
-        Ok(()) => replay.begin_line(0),
-        Err(r) => replay.begin_line(class(r)),
-    }
+    replay.begin_line(answer.err().map_or(0, class))
 }
 
 fn insert(
@@ -61,11 +58,7 @@ fn consume(
     window: &mut WindowViewMut<'_>,
 ) -> io::Result<()> {
     match window.consume() {
-        Ok(Some(Run { last, length })) => {
-            replay.begin_line(1)?;
-            replay.print_number(last)?;
-            replay.print_number(length)
-        }
+        Ok(Some(Run { last, length })) => write!(replay.answers, "1 {last} {length}"),
         Ok(None) => replay.begin_line(0),
         Err(r) => replay.begin_line(class(r)),
     }

@@ -83,9 +83,9 @@ fn pack_into(
     };
     match writer::consume_data_into(&mut store, queue, next_packet_num, ids, out) {
         Ok(packed) => print_packed(replay, packed)?,
-        Err(refusal) => replay.begin_line(refusal.number() as u64)?,
+        Err(refusal) => replay.begin_line(refusal.number())?,
     }
-    replay.print_number(recorded::sum_of(out))
+    replay.print(recorded::sum_of(out))
 }
 
 fn pack(replay: &mut Replay<impl Read, impl Write>, bytes: &[u8]) -> io::Result<()> {
@@ -110,7 +110,7 @@ fn count(replay: &mut Replay<impl Read, impl Write>) -> io::Result<()> {
     let mut buf = [0u8; 512];
     let n = replay.read_bytes(&mut buf)?;
     replay.begin_line(0)?;
-    replay.print_number(writer::payload_bytes_in_datagram(&buf[..n]) as u64)
+    replay.print(writer::payload_bytes_in_datagram(&buf[..n]))
 }
 
 fn main(rt: HostRuntime) -> io::Result<()> {
