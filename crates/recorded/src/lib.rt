@@ -5,6 +5,7 @@
 
 ghost use Rattle.std.specs.Prelude.{◌≤◌, length, IfOk};
 
+use refusal::Refusal;
 use std::fmt::Display;
 use std::io::{self, BufReader, BufWriter, Input, Print, Printer, Read, Write};
 
@@ -102,6 +103,14 @@ impl<R, W: Write> Replay<R, W> {
     // An answer's line begins with its kind: 0, or the number of a refusal, unless the command says otherwise.
     pub fn begin_line(&mut self, kind: impl Display + Drop) -> io::Result<()> {
         write!(self.answers, "{kind}")
+    }
+
+    // 0 and what a call answers, or the number of its refusal.
+    pub fn begin_answer(&mut self, answer: Result<impl Display + Drop, Refusal>) -> io::Result<()> {
+        match answer {
+            Ok(x) => write!(self.answers, "0 {x}"),
+            Err(refusal) => self.begin_line(refusal.number()),
+        }
     }
 
     pub fn print(&mut self, x: impl Display + Drop) -> io::Result<()> {

@@ -10,25 +10,14 @@ use std::io::{self, Read, Write};
 
 fn security_serialise(replay: &mut Replay<impl Read, impl Write>) -> io::Result<()> {
     let fields = recorded_header::read_security(replay)?;
-    match fields.serialise() {
-        Ok(b) => {
-            replay.begin_line(0)?;
-            replay.print(b)
-        }
-        Err(refusal) => replay.begin_line(refusal.number()),
-    }
+    replay.begin_answer(fields.serialise())
 }
 
 fn security_deserialise(replay: &mut Replay<impl Read, impl Write>) -> io::Result<()> {
     let mut buf = [0u8; 64];
     let n = replay.read_bytes(&mut buf)?;
-    match BluefinSecurityFields::deserialise(&buf[..n]) {
-        Ok(fields) => {
-            replay.begin_line(0)?;
-            replay.print(Numbers(fields))
-        }
-        Err(error) => replay.begin_line(error.refusal.number()),
-    }
+    let answer = BluefinSecurityFields::deserialise(&buf[..n]).map(Numbers);
+    replay.begin_answer(answer.map_err(|error| error.refusal))
 }
 
 // Every byte of the buffer is printed: those past the header stay at 9.
@@ -37,26 +26,15 @@ fn serialise_into(replay: &mut Replay<impl Read, impl Write>) -> io::Result<()> 
     let mut buf = [9u8; 64];
     let room = replay.read_length(&buf)?;
     let out = &mut buf[..room];
-    match h.serialise_into(out) {
-        Ok(n) => {
-            replay.begin_line(0)?;
-            replay.print(n)?;
-        }
-        Err(refusal) => replay.begin_line(refusal.number())?,
-    }
+    replay.begin_answer(h.serialise_into(out))?;
     replay.print_bytes(out)
 }
 
 fn deserialise(replay: &mut Replay<impl Read, impl Write>) -> io::Result<()> {
     let mut buf = [0u8; 64];
     let n = replay.read_bytes(&mut buf)?;
-    match BluefinHeader::deserialise(&buf[..n]) {
-        Ok(h) => {
-            replay.begin_line(0)?;
-            replay.print(Numbers(h))
-        }
-        Err(error) => replay.begin_line(error.refusal.number()),
-    }
+    let answer = BluefinHeader::deserialise(&buf[..n]).map(Numbers);
+    replay.begin_answer(answer.map_err(|error| error.refusal))
 }
 
 fn main(rt: HostRuntime) -> io::Result<()> {

@@ -61,13 +61,7 @@ fn serialise_into(replay: &mut Replay<impl Read, impl Write>) -> io::Result<()> 
     let mut payload = [0u8; 64];
     let n = replay.read_bytes(&mut payload)?;
     let out = &mut buf[..room];
-    match packet::serialise_into(h, &payload[..n], out) {
-        Ok(written) => {
-            replay.begin_line(0)?;
-            replay.print(written)?;
-        }
-        Err(r) => replay.begin_line(r.number())?,
-    }
+    replay.begin_answer(packet::serialise_into(h, &payload[..n], out))?;
     replay.print_bytes(out)
 }
 
