@@ -1,6 +1,6 @@
 // Recorded questions and answers, replayed: words of 8 bytes on an input, the highest byte first, and lines of decimal numbers on an output.
 // oracle/ writes the records. Proved: reading stays within the buffer that is lent, whatever the input holds, and every loop ends.
-// A read or a write that fails is answered with its error.
+// A read or a write that fails is answered with its error, and so is a number that its type does not hold.
 #![tactic(auto)]
 
 ghost use Rattle.std.specs.Prelude.{◌≤◌, length, IfOk};
@@ -8,6 +8,7 @@ ghost use Rattle.std.specs.Prelude.{◌≤◌, length, IfOk};
 use refusal::Refusal;
 use std::fmt::Display;
 use std::io::{self, BufReader, BufWriter, Input, Print, Printer, Read, Write};
+use std::num::TryFromIntError;
 
 // A record that is replayed: the questions that are left to read, and where their answers go.
 #[derive(Drop)]
@@ -62,18 +63,9 @@ impl<R: Read, W> Replay<R, W> {
         Ok(u64::from_be_bytes(word))
     }
 
-    // The next word as a number of so many bits: the recorded ones fit.
-    // Three functions: one for every type needs a trait whose impls are these three lines again.
-    pub fn read_u8(&mut self) -> io::Result<u8> {
-        Ok((self.read_word()? % 256) as u8)
-    }
-
-    pub fn read_u16(&mut self) -> io::Result<u16> {
-        Ok((self.read_word()? % 65536) as u16)
-    }
-
-    pub fn read_u32(&mut self) -> io::Result<u32> {
-        Ok((self.read_word()? % 4294967296) as u32)
+    // The next word as a number of fewer bits.
+    pub fn read_number<T: TryFrom<u64, Error = TryFromIntError>>(&mut self) -> io::Result<T> {
+        T::try_from(self.read_word()?).map_err(|_| io::ErrorKind::InvalidData.into())
     }
 
     // A length: the next word, or buf's length where that is less.

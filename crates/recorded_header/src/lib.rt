@@ -8,24 +8,25 @@ use std::io::{self, Read, Write};
 
 // The type of a word: the recorded ones are 0 to 6.
 pub fn read_type(replay: &mut Replay<impl Read, impl Write>) -> io::Result<PacketType> {
-    Ok(PacketType::of_number(replay.read_u8()?))
+    Ok(PacketType::of_number(replay.read_number()?))
 }
 
 pub fn read_security(
     replay: &mut Replay<impl Read, impl Write>,
 ) -> io::Result<BluefinSecurityFields> {
     let encrypted = replay.read_word()? != 0;
-    Ok(BluefinSecurityFields::new(encrypted, replay.read_u8()?))
+    let mask = replay.read_number()?;
+    Ok(BluefinSecurityFields::new(encrypted, mask))
 }
 
 pub fn read_header(replay: &mut Replay<impl Read, impl Write>) -> io::Result<BluefinHeader> {
     Ok(BluefinHeader {
-        version: replay.read_u8()?,
+        version: replay.read_number()?,
         type_field: read_type(replay)?,
-        type_specific_payload: replay.read_u16()?,
+        type_specific_payload: replay.read_number()?,
         security_fields: read_security(replay)?,
-        source_connection_id: replay.read_u32()?,
-        destination_connection_id: replay.read_u32()?,
+        source_connection_id: replay.read_number()?,
+        destination_connection_id: replay.read_number()?,
         packet_number: replay.read_word()?,
     })
 }

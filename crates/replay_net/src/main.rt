@@ -16,8 +16,8 @@ fn read_host(replay: &mut Replay<impl Read, impl Write>) -> io::Result<BluefinHo
 
 fn read_ids(replay: &mut Replay<impl Read, impl Write>) -> io::Result<ConnectionIds> {
     Ok(ConnectionIds {
-        source: replay.read_u32()?,
-        destination: replay.read_u32()?,
+        source: replay.read_number()?,
+        destination: replay.read_number()?,
     })
 }
 
