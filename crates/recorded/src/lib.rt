@@ -40,19 +40,10 @@ where
     replay.answers.flush()
 }
 
-// Reads until buf is full or the input ends, and answers how many of buf's bytes were read. `read_exact` answers an early end with an error; here what is missing of a record is zeros.
-fn read_full(input: &mut impl Read, buf: &mut [u8]) -> io::Result<usize>
-    ensures { IfOk result (λ n. n ≤ length buf.new) }
-{
-    let mut done = 0;
-    while done < buf.len() {
-        let n = input.read(&mut buf[done..])?;
-        if n == 0 {
-            break;
-        }
-        done += n;
-    }
-    Ok(done)
+// Reads until buf is full or the input ends. `read_exact` answers an early end with an error; here what is missing of a record is zeros.
+fn read_full(input: &mut impl Read, buf: &mut [u8]) -> io::Result<()> {
+    io::copy(&mut input.take(buf.len() as u64), &mut &mut buf[..])?;
+    Ok(())
 }
 
 impl<R: Read, W> Replay<R, W> {
