@@ -6,18 +6,13 @@
 use header::{BluefinHeader, BluefinSecurityFields};
 use recorded::Replay;
 use recorded_header::Numbers;
+use refusal::ReadError;
+use std::fmt::Display;
 use std::io::{self, Read, Write};
 
 fn security_serialise(replay: &mut Replay<impl Read, impl Write>) -> io::Result<()> {
     let fields = recorded_header::read_security(replay)?;
     replay.begin_answer(fields.serialise())
-}
-
-fn security_deserialise(replay: &mut Replay<impl Read, impl Write>) -> io::Result<()> {
-    let mut buf = [0u8; 64];
-    let n = replay.read_bytes(&mut buf)?;
-    let answer = BluefinSecurityFields::deserialise(&buf[..n]).map(Numbers);
-    replay.begin_answer(answer.map_err(|error| error.refusal))
 }
 
 // Every byte of the buffer is printed: those past the header stay at 9.
@@ -30,18 +25,25 @@ fn serialise_into(replay: &mut Replay<impl Read, impl Write>) -> io::Result<()> 
     replay.print_bytes(out)
 }
 
-fn deserialise(replay: &mut Replay<impl Read, impl Write>) -> io::Result<()> {
+fn deserialise<T: Drop, F: FnOnce(&[u8]) -> Result<T, ReadError>>(
+    replay: &mut Replay<impl Read, impl Write>,
+    read: F,
+) -> io::Result<()>
+where
+    Numbers<T>: Display,
+    requires { F.IsAlwaysCallable read }
+{
     let mut buf = [0u8; 64];
     let n = replay.read_bytes(&mut buf)?;
-    let answer = BluefinHeader::deserialise(&buf[..n]).map(Numbers);
+    let answer = read(&buf[..n]).map(Numbers);
     replay.begin_answer(answer.map_err(|error| error.refusal))
 }
 
 fn main(rt: HostRuntime) -> io::Result<()> {
     recorded::answer_each(&rt, |command, replay| match command {
         1 => security_serialise(replay),
-        2 => security_deserialise(replay),
+        2 => deserialise(replay, BluefinSecurityFields::deserialise),
         3 => serialise_into(replay),
-        _ => deserialise(replay),
+        _ => deserialise(replay, BluefinHeader::deserialise),
     })
 }

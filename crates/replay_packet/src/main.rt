@@ -20,37 +20,29 @@ fn recorded_as(parsed: Result<usize, ReadError>) -> (u8, usize) {
     }
 }
 
-fn print_parsed(
+fn parse<F: FnOnce(&[u8], &mut [u32]) -> Result<usize, ReadError>>(
     replay: &mut Replay<impl Read, impl Write>,
-    number: usize,
-    index: &[u32],
-) -> io::Result<()> {
-    replay.print(number)?;
+    datagram: &[u8],
+    from_bytes: F,
+) -> io::Result<()>
+    requires { F.IsAlwaysCallable from_bytes }
+{
+    let mut index = [UNWRITTEN; packet::INDEX_LEN];
+    let (kind, number) = recorded_as(from_bytes(datagram, &mut index));
+    write!(replay.answers, "{kind} {number}")?;
     for cell in index.iter().take_while(|cell| **cell != UNWRITTEN) {
         replay.print(cell)?;
     }
     Ok(())
 }
 
-fn parse(replay: &mut Replay<impl Read, impl Write>, datagram: &[u8]) -> io::Result<()> {
-    let mut index = [UNWRITTEN; packet::INDEX_LEN];
-    let (kind, number) = recorded_as(packet::from_bytes(datagram, &mut index));
-    replay.begin_line(kind)?;
-    print_parsed(replay, number, &index)
-}
-
-fn parse_into(replay: &mut Replay<impl Read, impl Write>, datagram: &[u8]) -> io::Result<()> {
-    let mut index = [UNWRITTEN; packet::INDEX_LEN];
-    let (kind, number) = recorded_as(packet::from_bytes_into(datagram, &mut index));
-    replay.print(kind)?;
-    print_parsed(replay, number, &index)
-}
-
+// Both parses, on one line.
 fn parse_both(replay: &mut Replay<impl Read, impl Write>) -> io::Result<()> {
     let mut buf = [0u8; 65536];
     let n = replay.read_bytes(&mut buf)?;
-    parse(replay, &buf[..n])?;
-    parse_into(replay, &buf[..n])
+    parse(replay, &buf[..n], packet::from_bytes)?;
+    write!(replay.answers, " ")?;
+    parse(replay, &buf[..n], packet::from_bytes_into)
 }
 
 // Every byte of the buffer is printed: those past the packet stay at 9.
