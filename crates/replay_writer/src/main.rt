@@ -21,8 +21,8 @@ const MOST_ENTRIES: usize = 64;
 
 const OUT_LEN: usize = 16384;
 
-// The bytes that a store is lent: 64 packets of 1,520.
-const STORE_LEN: usize = PLACES * 1520;
+// The bytes that a store is lent.
+const STORE_LEN: usize = PLACES * outstanding::PACKET_SIZE;
 
 // What output bytes hold before a packing.
 const BEFORE: u8 = 9;
