@@ -14,6 +14,20 @@ pub enum CloseState {
     Closed,
 }
 
+impl CloseState {
+    // As it is answered: its number, and that of its FIN.
+    pub fn numbers(self) -> (u8, Option<u64>)
+        ensures { result ≡ state_says self }
+    {
+        match self {
+            Self::Active => (0, None),
+            Self::PeerFinReceived(n) => (1, Some(n)),
+            Self::LocalFinSent(n) => (2, Some(n)),
+            Self::Closed => (3, None),
+        }
+    }
+}
+
 // `peer_fin_observed` is shared with the reader in the Rust; here it is a bool of the record.
 #[derive(Clone, Copy, Debug, PartialEq, Eq)]
 pub struct CloseBuffer {

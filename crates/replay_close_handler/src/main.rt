@@ -3,7 +3,7 @@
 // The transitions by value are called: the calls on a lent record are proved equal to them.
 #![tactic(auto)]
 
-use close_handler::{CloseBuffer, CloseState};
+use close_handler::CloseBuffer;
 use recorded::Replay;
 use std::io::{self, Read, Write};
 
@@ -13,20 +13,11 @@ fn print_maybe(replay: &mut Replay<impl Read, impl Write>, n: Option<u64>) -> io
     replay.print(n.unwrap_or(0))
 }
 
-fn print_state(replay: &mut Replay<impl Read, impl Write>, s: CloseState) -> io::Result<()> {
-    let (kind, n) = match s {
-        CloseState::Active => (0, 0),
-        CloseState::PeerFinReceived(n) => (1, n),
-        CloseState::LocalFinSent(n) => (2, n),
-        CloseState::Closed => (3, 0),
-    };
-    replay.print(kind)?;
-    replay.print(n)
-}
-
 // The record: state, FIN-ACK owed, FIN-ACK recorded, flag.
 fn print_record(replay: &mut Replay<impl Read, impl Write>, c: CloseBuffer) -> io::Result<()> {
-    print_state(replay, c.state)?;
+    let (state, fin) = c.state.numbers();
+    replay.print(state)?;
+    replay.print(fin.unwrap_or(0))?;
     print_maybe(replay, c.pending_fin_ack_send)?;
     print_maybe(replay, c.received_fin_ack_for)?;
     replay.print(c.peer_fin_observed as u8)
