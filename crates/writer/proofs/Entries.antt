@@ -1,12 +1,13 @@
 -- The lengths of a queue's entries, one entry on: their sum, and the entries that go with the first q bytes.
 -- Assumes nothing.
 use Prim.Native.Nat.{ℕ, zero, suc, ◌+◌, ◌-◌, ◌<◌, ◌≤◌}
-use mathlib.Core.Path.{◌≡◌, refl, ap}
-use mathlib.Core.List.{List, [], ◌∷◌}
+use mathlib.Core.Path.{◌≡◌, refl, ap, ◌∙◌}
+use mathlib.Core.List.{List, [], ◌∷◌, ◌++◌}
 use native.Mathlib.Omega.{arith}
+use native.Mathlib.Decide.{dec_le}
 use native.Mathlib.Numerals.{add-one}
 use native.Mathlib.Nat.{add-zero}
-use lib.ListN.{length, drop, get_or, drop_of_length-le}
+use lib.ListN.{length, length-append, drop, get_or, drop_of_length-le}
 use lib.Seq.{drop-cons}
 use borrow.Author.Tests.{le-leb, lt-leb}
 use Rattle.std.specs.List as std
@@ -66,3 +67,72 @@ module _ (q : ℕ) (ls : List ℕ) (i : ℕ) where
   removal_used h =
       let z : q ≡ 0 = omega arith in
       rw (z, none_used (drop i ls), add-zero)
+
+-- The entries in front of others: where the bytes end in them, those behind do not matter, and otherwise all of them go.
+pub removal_front : (q : ℕ) (p t : List ℕ) → q ≤ sum p → removal q (p ++ t) ≡ removal q p
+unfolding sum
+removal_front q [] t h =
+    let z : q ≡ 0 = omega arith in
+    rw (z, none_used t, none_used [])
+removal_front q (l ∷ p) t h =
+    elim (dec_le l q) [
+      | no stays ↦ rw (first_stays q l (p ++ t) (omega arith), first_stays q l p (omega arith))
+      | yes goes ↦ elim (dec_le 1 q) [
+        | no none ↦
+            let z : q ≡ 0 = omega arith in
+            rw (z, none_used (l ∷ p ++ t), none_used (l ∷ p))
+        | yes some ↦ rw (first_goes q l (p ++ t) (omega arith) goes, first_goes q l p (omega arith) goes, removal_front (q - l) p t (omega arith))
+      ]
+    ]
+
+pub removal_past : (q : ℕ) (p t : List ℕ) → sum p < q → removal q (p ++ t) ≡ after (length p) (removal (q - sum p) t)
+unfolding sum
+removal_past q [] t h =
+    let z : q - 0 ≡ q = omega arith in
+    let w : 0 + (removal q t).0 ≡ (removal q t).0 = omega arith in
+    rw (z, w) refl
+removal_past q (l ∷ p) t h =
+    let z : q - l - sum p ≡ q - (l + sum p) = omega arith in
+    let rest = removal (q - (l + sum p)) t in
+    let w : suc (length p + rest.0) ≡ suc (length p) + rest.0 = omega arith in
+    rw (first_goes q l (p ++ t) (omega arith) (omega arith), removal_past (q - l) p t (omega arith), z, w) refl
+
+none_there : (q : ℕ) → removal q [] ≡ (0, 0)
+unfolding removal
+none_there q = refl
+
+pub removal_few : (q : ℕ) (ls : List ℕ) → (removal q ls).0 ≤ length ls
+removal_few q [] = rw (none_there q) (omega arith)
+removal_few q (l ∷ ls) =
+    elim (dec_le l q) [
+      | no stays ↦ rw (first_stays q l ls (omega arith)) (omega arith)
+      | yes goes ↦ elim (dec_le 1 q) [
+        | no none ↦
+            let z : q ≡ 0 = omega arith in
+            rw (z, none_used (l ∷ ls)) (omega arith)
+        | yes some ↦ rw (first_goes q l ls (omega arith) goes) (omega (arith, removal_few (q - l) ls))
+      ]
+    ]
+
+pub removal_first : (q : ℕ) {s ls : List ℕ} → s ≡ ls → after 0 (removal q s) ≡ removal q ls
+removal_first q {s} {ls} e =
+    let w : 0 + (removal q ls).0 ≡ (removal q ls).0 = omega arith in
+    rw (e, w) refl
+
+-- .. after entries that have gone
+module _ (q passed : ℕ) {s : List ℕ} (p t : List ℕ) (split : s ≡ p ++ t) where
+  pub removal_here : q ≤ sum p → after passed (removal q p) ≡ after passed (removal q s)
+  removal_here h = rw (split, removal_front q p t h)
+
+  pub removal_on : sum p < q → after (passed + length p) (removal (q - sum p) t) ≡ after passed (removal q s)
+  removal_on h =
+      let rest = removal (q - sum p) t in
+      let z : passed + (length p + rest.0) ≡ passed + length p + rest.0 = omega arith in
+      rw (split, removal_past q p t h, z)
+
+pub passed_on : (passed : ℕ) {s : List ℕ} (p t : List ℕ) → s ≡ p ++ t → passed + length p + length t ≡ passed + length s
+passed_on passed p t split = omega (arith, ap length split ∙ length-append p t)
+
+pub removal_none : (q passed : ℕ) (s : List ℕ) → length s ≡ 0 → (passed, 0) ≡ after passed (removal q s)
+removal_none q passed [] e = rw (none_there q, add-zero)
+removal_none q passed (l ∷ s) e = absurd (omega arith)

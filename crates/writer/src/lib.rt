@@ -27,6 +27,9 @@ const PAYLOAD_SIZE: usize = net::MAX_BLUEFIN_PAYLOAD_SIZE_BYTES;
 // The payload bytes of a full datagram: its 15,200 bytes less ten headers.
 const BYTE_LIMIT: usize = net::MAX_BLUEFIN_PACKETS_IN_UDP_DATAGRAM * PAYLOAD_SIZE;
 
+// The entries whose lengths are summed at once, which the compiler makes wide, where the end of what leaves the queue is looked for.
+const BLOCK: usize = 64;
+
 // What a packing took and made: payload bytes, packets, the number after the last one, entries removed from the queue's front, and bytes cut
 // from the first entry left.
 #[derive(Clone, Copy, Debug, PartialEq, Eq)]
@@ -79,6 +82,27 @@ fn checked_sum_of(lengths: &[u32]) -> Option<usize>
     Some(sum)
 }
 
+// The entries of a block that go with q bytes.
+fn removed_in(lengths: &[u32], q: usize) -> Removal
+    ensures { ◌≡◌ {A = ℕ × ℕ} (result.entries, result.cut) (removal q lengths.now) }
+{
+    let mut left = q;
+    for (i, length) in lengths.iter().enumerate() {
+        let entry = *length as usize;
+        if left == 0 || entry > left {
+            return Removal {
+                entries: i,
+                cut: left,
+            };
+        }
+        left -= entry;
+    }
+    Removal {
+        entries: lengths.len(),
+        cut: 0,
+    }
+}
+
 // Writes one data packet at the output's start.
 fn write_packet(payload: &[u8], packet_number: u64, ids: ConnectionIds, out: &mut [u8])
     requires { (length payload.now < 65536) × (20 + length payload.now ≤ length out.old) }
@@ -119,23 +143,26 @@ impl Queue<'_> {
         checked_sum_of(self.lengths) == Some(self.bytes.len())
     }
 
-    // The entries that go with the first q bytes.
+    // The entries that go with the first q bytes: block by block, and one by one in the block where they end.
     fn removed_with(&self, q: usize) -> Removal
         ensures { ◌≡◌ {A = ℕ × ℕ} (result.entries, result.cut) (removal q self.now.lengths.now) }
     {
         let mut left = q;
-        for (i, length) in self.lengths.iter().enumerate() {
-            let entry = *length as usize;
-            if left == 0 || entry > left {
+        let mut passed = 0;
+        for block in self.lengths.chunks(BLOCK) {
+            let bytes = sum_of(block);
+            if bytes >= left {
+                let last = removed_in(block, left);
                 return Removal {
-                    entries: i,
-                    cut: left,
+                    entries: passed + last.entries,
+                    cut: last.cut,
                 };
             }
-            left -= entry;
+            left -= bytes;
+            passed += block.len();
         }
         Removal {
-            entries: self.lengths.len(),
+            entries: passed,
             cut: 0,
         }
     }

@@ -1,24 +1,46 @@
--- With no bytes left, or an entry longer than what is left, it stays, and a shorter one goes. Assumes nothing.
-use Rattle.std.proofs.Common.{sym, ap, ◌∙◌, ℕ, arith}
-use Rattle.writer.proofs.Entries.{removal_next, removal_stops, removal_end, removal_used}
+-- A block whose bytes are fewer than those left goes whole, and in another one the removal ends. Assumes nothing.
+use Rattle.std.proofs.Common.{ℕ, ◌+◌, ◌-◌, ap, ◌∙◌, arith, length}
+use Rattle.std.specs.Slice.Iter.{chunks_rest, chunks_size}
+use Rattle.writer.specs.Packing.{removal}
+use Rattle.writer.proofs.Entries.{after, removal_few, removal_first, removal_here, removal_on, removal_none, passed_on}
 use Rattle.writer.proofs.Queue.removed_with.Goals as goal
-use Rattle.writer.proofs.Queue.removed_with.Goals.{then-left-eq0-via-then-left-eq0, then-left-eq0-via-else-left-eq0+then-entry-left}
 
-pub returns-then-left-eq0 : goal.returns-then-left-eq0
-returns-then-left-eq0 c =
-    let w = c.loop-i in
-    elim c.then-left-eq0.branch [
-      | then-left-eq0-via-then-left-eq0 v ↦
-          sym (removal_used w.left c.args.self.now.lengths.now w.i (omega (arith, v.if-left-eq0.true)) ∙ ap (λ (n : ℕ). (w.i, n)) (sym v.if-left-eq0.true)) ∙ w.invariant
-      | then-left-eq0-via-else-left-eq0+then-entry-left v ↦ sym (removal_stops _ _ _ (omega arith) v.if-entry-left.true) ∙ w.invariant
-    ]
+abbrev first : ℕ × ℕ → ℕ
+first r = r.0
 
-pub loop-i-preserved : goal.loop-i-preserved
-loop-i-preserved c =
-    let w = c.loop-i in
-    sym (removal_next w.left c.args.self.now.lengths.now w.i (omega arith) (omega arith) c.if-entry-left.false) ∙ w.invariant
+pub loop-block-init : goal.loop-block-init
+loop-block-init c =
+    let made = c.into_iter-block-iterator.ensures.into_iter_gives in
+    let rest = ap chunks_rest made ∙ c.chunks-block-items.ensures.rest in
+    (ap chunks_size made ∙ c.chunks-block-items.ensures.size, omega (arith, ap length rest), removal_first c.args.q rest)
+
+pub overflow_add-result : goal.overflow_add-result
+overflow_add-result c =
+    let block = c.in-Some.block.now in
+    let on = passed_on c.loop-block.passed block (chunks_rest c.next.new.self) c.in-Some.ensures.steps.1.0 in
+    omega (arith, ap first c.removed_in-last.ensures, removal_few c.loop-block.left block)
+
+pub returns-then-bytes-left : goal.returns-then-bytes-left
+returns-then-bytes-left c =
+    let w = c.loop-block in
+    ap (after w.passed) c.removed_in-last.ensures
+    ∙ removal_here w.left w.passed c.in-Some.block.now (chunks_rest c.next.new.self) c.in-Some.ensures.steps.1.0 (omega arith) ∙ w.invariant.2
+
+pub overflow_add-passed : goal.overflow_add-passed
+overflow_add-passed c =
+    let on = passed_on c.loop-block.passed c.in-Some.block.now (chunks_rest c.next.new.self) c.in-Some.ensures.steps.1.0 in
+    omega arith
+
+pub loop-block-preserved : goal.loop-block-preserved
+loop-block-preserved c =
+    let w = c.loop-block in
+    let h = c.in-Some.ensures.steps in
+    let block = c.in-Some.block.now in
+    let rest = chunks_rest c.next.new.self in
+    let left = ap (λ (n : ℕ). after (w.passed + length block) (removal (w.left - n) rest)) c.sum_of-bytes.ensures in
+    (h.0 ∙ w.invariant.0, passed_on w.passed block rest h.1.0 ∙ w.invariant.1, left ∙ removal_on w.left w.passed block rest h.1.0 (omega arith) ∙ w.invariant.2)
 
 pub returns : goal.returns
 returns c =
-    let w = c.loop-i in
-    sym (removal_end w.left c.args.self.now.lengths.now w.i w.auto.i-end c.loop-i-test.false) ∙ w.invariant
+    let w = c.loop-block in
+    removal_none w.left w.passed _ c.in-None.ensures.steps.1.0 ∙ w.invariant.2
