@@ -6,17 +6,16 @@
 ghost use Rattle.std.specs.Prelude.{◌≡◌, ◌+◌, ◌≤◌, true, length};
 ghost use Rattle.std.proofs.Common.{rules};
 ghost use Rattle.refusal.specs.Said.{says};
+ghost use Rattle.header.specs.Types.{type_number};
 ghost use Rattle.packet.specs.Datagram.{packet_at};
 ghost use Rattle.window.specs.Window.{well_formed};
 ghost use Rattle.window.specs.View.{SameLent};
 ghost use Rattle.receive.specs.Datagram.{Acks, acks_in, enters};
 
 use crate::receiver::Receiver;
+use header::PacketType;
 use refusal::Refusal;
 use window::WindowViewMut;
-
-// The type of an ack.
-const ACK: u8 = 4;
 
 impl Receiver for WindowViewMut<'_> {
     ghost kind = { 4 };
@@ -31,10 +30,10 @@ impl Receiver for WindowViewMut<'_> {
 
     ghost Kept = { SameLent };
 
-    fn packet_type() -> u8
-        ensures { result ≡ 4 }
+    fn packet_type() -> PacketType
+        ensures { type_number result ≡ 4 }
     {
-        ACK
+        PacketType::Ack
     }
 
     fn well_formed(&self) -> bool

@@ -6,17 +6,15 @@
 ghost use Rattle.std.specs.Prelude.{◌≡◌, ◌+◌, ◌≤◌, true, length};
 ghost use Rattle.std.proofs.Common.{rules};
 ghost use Rattle.refusal.specs.Said.{says};
+ghost use Rattle.header.specs.Types.{type_number};
 ghost use Rattle.packet.specs.Datagram.{packet_at};
 ghost use Rattle.ordered_bytes.specs.Buffer.{Buffer, buffer_now, well_formed, SameLent};
 ghost use Rattle.receive.specs.Datagram.{accepts};
 
 use crate::receiver::Receiver;
-use header::HEADER_SIZE;
+use header::{HEADER_SIZE, PacketType};
 use ordered_bytes::BufferViewMut;
 use refusal::Refusal;
-
-// The type of a data packet.
-const DATA: u8 = 3;
 
 impl Receiver for BufferViewMut<'_> {
     ghost kind = { 3 };
@@ -31,10 +29,10 @@ impl Receiver for BufferViewMut<'_> {
 
     ghost Kept = { λ a b. SameLent a b × (b.state ≡ a.state) };
 
-    fn packet_type() -> u8
-        ensures { result ≡ 3 }
+    fn packet_type() -> PacketType
+        ensures { type_number result ≡ 3 }
     {
-        DATA
+        PacketType::UnencryptedData
     }
 
     fn well_formed(&self) -> bool

@@ -5,10 +5,12 @@
 
 ghost use Rattle.std.specs.Prelude.{◌≡◌, ℕ, ◌+◌, ◌<◌, ◌≤◌, Bool, true, length};
 ghost use Rattle.refusal.specs.Said.{Said, says, read_says};
+ghost use Rattle.header.specs.Types.{type_number};
 ghost use Rattle.packet.specs.Packet.{Packet};
 ghost use Rattle.packet.specs.Datagram.{packet_at, Listed};
 ghost use Rattle.receive.specs.Datagram.{progress, takes, takes_listed, takes_datagram, Leaves};
 
+use header::PacketType;
 use packet::Indexed;
 use refusal::{ReadError, Refusal};
 
@@ -27,8 +29,8 @@ pub trait Receiver {
     ghost Kept: { Self → Self → Type 0 };
 
     // The type of the packets that are taken.
-    fn packet_type() -> u8
-        ensures { result ≡ kind };
+    fn packet_type() -> PacketType
+        ensures { type_number result ≡ kind };
 
     // Refusal 12's test.
     fn well_formed(&self) -> bool
@@ -64,7 +66,7 @@ fn take_one<R: Receiver>(
         (takes R.kind R.call i (packet_at datagram.now (at, len)) (progress (R.state receiver.old) answers.old))
         (progress (R.state receiver.new) answers.new) }
 {
-    if header::type_at_unchecked(datagram, at) != R::packet_type() {
+    if header::type_at_unchecked(datagram, at) != u8::from(R::packet_type()) {
         return;
     }
     let taken = receiver.take_unchecked(datagram, at, len);
