@@ -107,28 +107,55 @@ impl PacketType {
     }
 }
 
-// What is read of the header at a cursor by itself. That its 20 bytes are there is the caller's to check.
-pub fn type_at_unchecked(bytes: &[u8], at: usize) -> u8
-    requires { at + 20 ≤ length bytes.now }
-    ensures { result ≡ type_at bytes.now at }
-{
-    bytes[at] % 16
+// A header's 20 bytes from `at` on, known to be there: what is read of them asks for no test.
+#[derive(Clone, Copy)]
+pub struct HeaderAt<'a> {
+    pub bytes: &'a [u8],
+    pub at: usize,
+    ghost within: { at + 20 ≤ length bytes.now },
 }
 
-#[tactic(auto, using(parts::proofs::BigEndian::from_be_bytes_2))]
-pub fn field_at_unchecked(bytes: &[u8], at: usize) -> u16
-    requires { at + 20 ≤ length bytes.now }
-    ensures { result ≡ field_at bytes.now at }
-{
-    u16::from_be_bytes(parts::array_at(bytes, at + 1))
-}
+impl HeaderAt<'_> {
+    pub fn type_number(&self) -> u8
+        ensures { result ≡ type_at self.now.bytes.now self.now.at }
+    {
+        self.bytes[self.at] % 16
+    }
 
-#[tactic(auto, using(parts::proofs::BigEndian::from_be_bytes_8))]
-pub fn number_at_unchecked(bytes: &[u8], at: usize) -> u64
-    requires { at + 20 ≤ length bytes.now }
-    ensures { result ≡ packet_number_at bytes.now at }
-{
-    u64::from_be_bytes(parts::array_at(bytes, at + 12))
+    #[tactic(auto, using(parts::proofs::BigEndian::from_be_bytes_2))]
+    pub fn field(&self) -> u16
+        ensures { result ≡ field_at self.now.bytes.now self.now.at }
+    {
+        u16::from_be_bytes(parts::array_at(self.bytes, self.at + 1))
+    }
+
+    #[tactic(auto, using(parts::proofs::BigEndian::from_be_bytes_8))]
+    pub fn number(&self) -> u64
+        ensures { result ≡ packet_number_at self.now.bytes.now self.now.at }
+    {
+        u64::from_be_bytes(parts::array_at(self.bytes, self.at + 12))
+    }
+
+    // The whole header, or refusal 4.
+    #[tactic(auto, using(parts::proofs::BigEndian::from_be_bytes_4), unfolding(crate::specs::Header::header_at))]
+    pub fn deserialise(&self) -> Result<BluefinHeader, ReadError>
+        ensures { read_says (λ h. h) result ≡ deserialises_at self.now.bytes.now self.now.at }
+    {
+        let HeaderAt { bytes, at } = *self;
+        let number = self.type_number();
+        if row_in_unchecked(&type_table(), number) == TypeRow::Unknown {
+            return Err(ReadError::at(Refusal::UnknownType, at));
+        }
+        Ok(BluefinHeader {
+            version: bytes[at] / 16,
+            type_field: PacketType::of_number(number),
+            type_specific_payload: self.field(),
+            security_fields: BluefinSecurityFields::from(bytes[at + 3]),
+            source_connection_id: u32::from_be_bytes(parts::array_at(bytes, at + 4)),
+            destination_connection_id: u32::from_be_bytes(parts::array_at(bytes, at + 8)),
+            packet_number: self.number(),
+        })
+    }
 }
 
 // The security byte's fields. A mask above 127 may be held; writing refuses it.
@@ -287,27 +314,6 @@ impl BluefinHeader {
         Ok(HEADER_SIZE)
     }
 
-    // The header in the 20 bytes from `at` on, which the caller has checked to be there.
-    #[tactic(auto, using(parts::proofs::BigEndian::from_be_bytes_4), unfolding(crate::specs::Header::header_at))]
-    pub fn deserialise_at_unchecked(bytes: &[u8], at: usize) -> Result<Self, ReadError>
-        requires { at + 20 ≤ length bytes.now }
-        ensures { read_says (λ h. h) result ≡ deserialises_at bytes.now at }
-    {
-        let number = type_at_unchecked(bytes, at);
-        if row_in_unchecked(&type_table(), number) == TypeRow::Unknown {
-            return Err(ReadError::at(Refusal::UnknownType, at));
-        }
-        Ok(Self {
-            version: bytes[at] / 16,
-            type_field: PacketType::of_number(number),
-            type_specific_payload: field_at_unchecked(bytes, at),
-            security_fields: BluefinSecurityFields::from(bytes[at + 3]),
-            source_connection_id: u32::from_be_bytes(parts::array_at(bytes, at + 4)),
-            destination_connection_id: u32::from_be_bytes(parts::array_at(bytes, at + 8)),
-            packet_number: number_at_unchecked(bytes, at),
-        })
-    }
-
     // core/header.rs, `BluefinHeader::deserialise`, which panics at an unknown type.
     pub fn deserialise(bytes: &[u8]) -> Result<Self, ReadError>
         ensures { read_says (λ h. h) result ≡ deserialises bytes.now }
@@ -315,6 +321,6 @@ impl BluefinHeader {
         if bytes.len() != HEADER_SIZE {
             return Err(ReadError::at(Refusal::Short, 0));
         }
-        Self::deserialise_at_unchecked(bytes, 0)
+        HeaderAt { bytes, at: 0 }.deserialise()
     }
 }

@@ -5,11 +5,11 @@
 // A read or a write that fails is answered with its error.
 #![tactic(auto)]
 
-ghost use Rattle.std.specs.Prelude.{◌≡◌, ◌+◌, ◌≤◌, length};
+ghost use Rattle.std.specs.Prelude.{◌≡◌};
 ghost use Rattle.packet.specs.Datagram.{packets_of, flat};
 ghost use Rattle.listing.specs.Cells.{IsPacket};
 
-use header::BluefinHeader;
+use header::HeaderAt;
 use refusal::ReadError;
 use std::io::{self, Read, Write};
 
@@ -36,22 +36,20 @@ fn print_packets(output: &mut impl Write, datagram: &[u8], cells: &[u32]) -> io:
     requires { cells.now ≡ flat (packets_of datagram.now).cells }
 {
     for cell in cells.chunks_exact(2) {
-        print_packet(output, datagram, cell[0] as usize, cell[1])?;
+        let header = HeaderAt {
+            bytes: datagram,
+            at: cell[0] as usize,
+        };
+        print_packet(output, &header, cell[1])?;
     }
     Ok(())
 }
 
 // The walk has refused unknown types, so that the header of a listed packet is read.
-fn print_packet(
-    output: &mut impl Write,
-    datagram: &[u8],
-    offset: usize,
-    payload_len: u32,
-) -> io::Result<()>
-    requires within { offset + 20 ≤ length datagram.now }
-    requires packet { IsPacket datagram.now offset payload_len }
+fn print_packet(output: &mut impl Write, header: &HeaderAt<'_>, payload_len: u32) -> io::Result<()>
+    requires { IsPacket header.now.bytes.now header.now.at payload_len }
 {
-    match BluefinHeader::deserialise_at_unchecked(datagram, offset) {
+    match header.deserialise() {
         Ok(h) => writeln!(
             output,
             "{} {} {} {payload_len}",

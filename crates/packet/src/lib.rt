@@ -3,12 +3,12 @@
 // Proved: what each call says and leaves in lent memory is the definition's, on every input; written packets are read back (proofs/Trip.antt).
 #![tactic(auto)]
 
-ghost use Rattle.std.specs.Prelude.{◌≡◌, List, ℕ, ◌+◌, Err, length};
+ghost use Rattle.std.specs.Prelude.{◌≡◌, List, ℕ, ◌+◌, ◌≤◌, Err, length, take, drop};
 ghost use Rattle.refusal.specs.Said.{Said, says, read_says};
 ghost use Rattle.packet.specs.Packet.{serialises_into, deserialises, payload_of};
 ghost use Rattle.packet.specs.Datagram.{parses, parses_into, indexes};
 
-use header::{BluefinHeader, HEADER_SIZE};
+use header::{BluefinHeader, HEADER_SIZE, HeaderAt};
 use parse::Packets;
 use refusal::{ReadError, Refusal};
 
@@ -54,7 +54,7 @@ pub fn deserialise(bytes: &[u8]) -> Result<BluefinHeader, ReadError>
     if bytes.len() < HEADER_SIZE {
         return Err(ReadError::at(Refusal::Short, 0));
     }
-    BluefinHeader::deserialise_at_unchecked(bytes, 0)
+    HeaderAt { bytes, at: 0 }.deserialise()
 }
 
 // All bytes after a header, as a part of the slice; none where there is no whole header.
@@ -62,6 +62,33 @@ pub fn payload_of(bytes: &[u8]) -> &[u8]
     ensures { result.now ≡ payload_of bytes.now }
 {
     &bytes[bytes.len().min(HEADER_SIZE)..]
+}
+
+// A packet in a datagram, known to lie within it: its header from `at` on, and the `len` bytes behind it.
+#[derive(Clone, Copy)]
+pub struct PacketAt<'a> {
+    pub datagram: &'a [u8],
+    pub at: usize,
+    pub len: usize,
+    ghost within: { at + 20 + len ≤ length datagram.now },
+}
+
+impl<'a> PacketAt<'a> {
+    pub fn header(&self) -> HeaderAt<'a>
+        ensures { (result.bytes.now ≡ self.now.datagram.now) × (result.at ≡ self.now.at) }
+    {
+        HeaderAt {
+            bytes: self.datagram,
+            at: self.at,
+        }
+    }
+
+    pub fn payload(&self) -> &'a [u8]
+        ensures { result.now ≡ take self.now.len (drop (self.now.at + 20) self.now.datagram.now) }
+    {
+        let begin = self.at + HEADER_SIZE;
+        &self.datagram[begin..begin + self.len]
+    }
 }
 
 // What `from_bytes_into` answers, and how many packets stand in the index, refused or not.

@@ -5,7 +5,7 @@ ghost use Rattle.refusal.specs.Said.{Said, read_says};
 ghost use Rattle.header.specs.Types.{TypeTable};
 
 use crate::READING_LIMIT;
-use header::{HEADER_SIZE, TypeRow};
+use header::{HEADER_SIZE, HeaderAt, TypeRow};
 use refusal::{ReadError, Refusal};
 
 // The packets of a datagram, of which `met` lie before the cursor `at`, where the index has `room` cells.
@@ -59,13 +59,16 @@ impl<'a> Packets<'a> {
         if left < HEADER_SIZE {
             return Err(Refusal::Tail);
         }
-        let number = header::type_at_unchecked(self.datagram, self.at);
-        match header::row_in_unchecked(&self.types, number) {
+        let header = HeaderAt {
+            bytes: self.datagram,
+            at: self.at,
+        };
+        match header::row_in_unchecked(&self.types, header.type_number()) {
             TypeRow::Unknown => return Err(Refusal::UnknownType),
             TypeRow::HeaderAlone => return Ok(Some(0)),
             TypeRow::WithPayload => {}
         }
-        let field = header::field_at_unchecked(self.datagram, self.at) as usize;
+        let field = header.field() as usize;
         if left <= 20 || left <= 19 + field {
             return Err(Refusal::PayloadMissing);
         }

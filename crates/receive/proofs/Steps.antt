@@ -21,11 +21,11 @@ use Rattle.window.proofs.Calls.{range_law}
 use Rattle.receive.specs.Datagram.{Acks, acks_of, accepts, enters}
 
 module _ (s : List ℕ) (at : ℕ) where
-  pub accepted : (b : Buffer) (len m : ℕ) {after : Buffer} {said : Said Unit} {ack : Option (ℕ × ℕ × ℕ)} {n : ℕ} → n ≡ packet_number_at s at → m ≡ len
-      → record { said = said; ack = ack; buffer = after } ≡ accepting b n (take m (drop (at + 20) s)) → ◌≡◌ {A = Said Unit × Buffer} (said, after) (accepts b (packet_at s (at, len)))
-  accepted b len m {n = n} number length e =
-      let payload : take m (drop (at + 20) s) ≡ (packet_at s (at, len)).payload = ap (λ (k : ℕ). take k (drop (at + 20) s)) length ∙ sym (payload_is s at len) in
-      ap (λ (a : Acceptance). (a.said, a.buffer)) (e ∙ ap₂ (λ (k : ℕ) (l : List ℕ). accepting b k l) (number ∙ sym (number_is s at len)) payload)
+  pub accepted : (b : Buffer) (len : ℕ) {after : Buffer} {said : Said Unit} {ack : Option (ℕ × ℕ × ℕ)} {n : ℕ} {payload : List ℕ} → n ≡ packet_number_at s at
+      → payload ≡ take len (drop (at + 20) s) → record { said = said; ack = ack; buffer = after } ≡ accepting b n payload
+      → ◌≡◌ {A = Said Unit × Buffer} (said, after) (accepts b (packet_at s (at, len)))
+  accepted b len number payload e =
+      ap (λ (a : Acceptance). (a.said, a.buffer)) (e ∙ ap₂ (λ (k : ℕ) (l : List ℕ). accepting b k l) (number ∙ sym (number_is s at len)) (payload ∙ sym (payload_is s at len)))
 
   -- no payload is read: the header is the same, whatever length the cell says
   pub entered : (w : SlidingWindow) (cells : List ℕ) (len : ℕ) {v : SlidingWindow} {after : List ℕ} {said : Said Unit} {base count : ℕ}

@@ -3,7 +3,7 @@
 // The trait's clauses stand here again: the check cannot give them to the methods of a block with a lifetime yet.
 #![tactic(auto)]
 
-ghost use Rattle.std.specs.Prelude.{◌≡◌, ◌+◌, ◌≤◌, true, length};
+ghost use Rattle.std.specs.Prelude.{◌≡◌, true};
 ghost use Rattle.std.proofs.Common.{rules};
 ghost use Rattle.refusal.specs.Said.{says};
 ghost use Rattle.header.specs.Types.{type_number};
@@ -14,6 +14,7 @@ ghost use Rattle.receive.specs.Datagram.{Acks, acks_in, enters};
 
 use crate::receiver::Receiver;
 use header::PacketType;
+use packet::PacketAt;
 use refusal::Refusal;
 use window::WindowViewMut;
 
@@ -43,15 +44,14 @@ impl Receiver for WindowViewMut<'_> {
     }
 
     // No payload is read.
-    fn take_unchecked(&mut self, datagram: &[u8], at: usize, len: usize) -> Result<(), Refusal>
-        requires { (well_formed self.old.state self.old.cells.now ≡ true) × (at + 20 + len ≤ length datagram.now) }
+    fn take_unchecked(&mut self, packet: &PacketAt<'_>) -> Result<(), Refusal>
+        requires { well_formed self.old.state self.old.cells.now ≡ true }
         ensures kept { SameLent self.old self.new }
         ensures well { well_formed self.new.state self.new.cells.now ≡ true }
-        ensures value { (says (λ x. x) result, acks_in self.new) ≡ enters (acks_in self.old) (packet_at datagram.now (at, len)) }
+        ensures value { (says (λ x. x) result, acks_in self.new) ≡ enters (acks_in self.old) (packet_at packet.now.datagram.now (packet.now.at, packet.now.len)) }
     {
-        let base = header::number_at_unchecked(datagram, at);
-        let count = header::field_at_unchecked(datagram, at);
-        self.insert_range_unchecked(base, count)
+        let header = packet.header();
+        self.insert_range_unchecked(header.number(), header.field())
     }
 
     ghost early = { Prim.search rules };

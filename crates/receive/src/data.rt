@@ -3,7 +3,7 @@
 // The trait's clauses stand here again: the check cannot give them to the methods of a block with a lifetime yet.
 #![tactic(auto)]
 
-ghost use Rattle.std.specs.Prelude.{◌≡◌, ◌+◌, ◌≤◌, true, length};
+ghost use Rattle.std.specs.Prelude.{◌≡◌, true};
 ghost use Rattle.std.proofs.Common.{rules};
 ghost use Rattle.refusal.specs.Said.{says};
 ghost use Rattle.header.specs.Types.{type_number};
@@ -12,8 +12,9 @@ ghost use Rattle.ordered_bytes.specs.Buffer.{Buffer, buffer_now, well_formed, Sa
 ghost use Rattle.receive.specs.Datagram.{accepts};
 
 use crate::receiver::Receiver;
-use header::{HEADER_SIZE, PacketType};
+use header::PacketType;
 use ordered_bytes::BufferViewMut;
+use packet::PacketAt;
 use refusal::Refusal;
 
 impl Receiver for BufferViewMut<'_> {
@@ -42,15 +43,13 @@ impl Receiver for BufferViewMut<'_> {
     }
 
     // Of a 5 the ack is left out: it is of the packet's own number, which stands in the datagram.
-    fn take_unchecked(&mut self, datagram: &[u8], at: usize, len: usize) -> Result<(), Refusal>
-        requires { (well_formed (buffer_now self.old) ≡ true) × (at + 20 + len ≤ length datagram.now) }
+    fn take_unchecked(&mut self, packet: &PacketAt<'_>) -> Result<(), Refusal>
+        requires { well_formed (buffer_now self.old) ≡ true }
         ensures kept { SameLent self.old self.new × (self.new.state ≡ self.old.state) }
         ensures well { well_formed (buffer_now self.new) ≡ true }
-        ensures value { (says (λ x. x) result, buffer_now self.new) ≡ accepts (buffer_now self.old) (packet_at datagram.now (at, len)) }
+        ensures value { (says (λ x. x) result, buffer_now self.new) ≡ accepts (buffer_now self.old) (packet_at packet.now.datagram.now (packet.now.at, packet.now.len)) }
     {
-        let number = header::number_at_unchecked(datagram, at);
-        let begin = at + HEADER_SIZE;
-        self.buffer_in_packet_unchecked(number, &datagram[begin..begin + len])
+        self.buffer_in_packet_unchecked(packet.header().number(), packet.payload())
             .map_err(|error| error.refusal())
     }
 

@@ -3,7 +3,7 @@
 // Proved for every receiver: answer, state and every lent list are the definition's `takes_datagram`, on every input.
 #![tactic(auto)]
 
-ghost use Rattle.std.specs.Prelude.{◌≡◌, ℕ, ◌+◌, ◌<◌, ◌≤◌, Bool, true, length};
+ghost use Rattle.std.specs.Prelude.{◌≡◌, ℕ, ◌<◌, ◌≤◌, Bool, true, length};
 ghost use Rattle.refusal.specs.Said.{Said, says, read_says};
 ghost use Rattle.header.specs.Types.{type_number};
 ghost use Rattle.packet.specs.Packet.{Packet};
@@ -11,7 +11,7 @@ ghost use Rattle.packet.specs.Datagram.{packet_at, Listed};
 ghost use Rattle.receive.specs.Datagram.{progress, takes, takes_listed, takes_datagram, Leaves};
 
 use header::PacketType;
-use packet::Indexed;
+use packet::{Indexed, PacketAt};
 use refusal::{ReadError, Refusal};
 
 pub trait Receiver {
@@ -37,11 +37,11 @@ pub trait Receiver {
         ensures { result ≡ well (state self.now) };
 
     // The call for one packet, without that test.
-    fn take_unchecked(&mut self, datagram: &[u8], at: usize, len: usize) -> Result<(), Refusal>
-        requires { (well (state self.old) ≡ true) × (at + 20 + len ≤ length datagram.now) }
+    fn take_unchecked(&mut self, packet: &PacketAt<'_>) -> Result<(), Refusal>
+        requires { well (state self.old) ≡ true }
         ensures kept { Kept self.old self.new }
         ensures well { well (state self.new) ≡ true }
-        ensures value { (says (λ x. x) result, state self.new) ≡ call (state self.old) (packet_at datagram.now (at, len)) };
+        ensures value { (says (λ x. x) result, state self.new) ≡ call (state self.old) (packet_at packet.now.datagram.now (packet.now.at, packet.now.len)) };
 
     // The types that an index can list are those below 6.
     ghost early: { kind < 6 };
@@ -52,24 +52,17 @@ pub trait Receiver {
 }
 
 // The i-th packet, if it is of the type.
-fn take_one<R: Receiver>(
-    receiver: &mut R,
-    datagram: &[u8],
-    at: usize,
-    len: usize,
-    i: usize,
-    answers: &mut [u8],
-)
-    requires { (R.well (R.state receiver.old) ≡ true) × (at + 20 + len ≤ length datagram.now) × (i < length answers.old) }
+fn take_one<R: Receiver>(receiver: &mut R, packet: &PacketAt<'_>, i: usize, answers: &mut [u8])
+    requires { (R.well (R.state receiver.old) ≡ true) × (i < length answers.old) }
     ensures kept { R.Kept receiver.old receiver.new }
     ensures value { Leaves (λ x. R.well x ≡ true)
-        (takes R.kind R.call i (packet_at datagram.now (at, len)) (progress (R.state receiver.old) answers.old))
+        (takes R.kind R.call i (packet_at packet.now.datagram.now (packet.now.at, packet.now.len)) (progress (R.state receiver.old) answers.old))
         (progress (R.state receiver.new) answers.new) }
 {
-    if header::type_at_unchecked(datagram, at) != u8::from(R::packet_type()) {
+    if packet.header().type_number() != u8::from(R::packet_type()) {
         return;
     }
-    let taken = receiver.take_unchecked(datagram, at, len);
+    let taken = receiver.take_unchecked(packet);
     answers[i] = refusal::refusal_in(taken);
 }
 
@@ -87,9 +80,12 @@ fn take_listed<R: Receiver>(
         ≡ takes_listed R.kind R.call datagram.now index.now n (progress (R.state receiver.old) answers.old) }
 {
     for i in 0..n {
-        let at = index[2 * i] as usize;
-        let len = index[2 * i + 1] as usize;
-        take_one(receiver, datagram, at, len, i, answers);
+        let packet = PacketAt {
+            datagram,
+            at: index[2 * i] as usize,
+            len: index[2 * i + 1] as usize,
+        };
+        take_one(receiver, &packet, i, answers);
     }
 }
 

@@ -15,7 +15,7 @@ ghost use Rattle.writer.specs.Empty.{packs_empty, sending_empty_of};
 ghost use Rattle.writer.specs.PayloadBytes.{payload_bytes};
 ghost use Rattle.writer.specs.Reserve.{reserving};
 
-use header::{BluefinHeader, BluefinSecurityFields, HEADER_SIZE, PacketType};
+use header::{BluefinHeader, BluefinSecurityFields, HEADER_SIZE, HeaderAt, PacketType};
 use net::ConnectionIds;
 use outstanding::{PACKET_SIZE, PLACES, StoreViewMut};
 use refusal::Refusal;
@@ -279,7 +279,11 @@ pub fn payload_bytes_in_datagram(datagram: &[u8]) -> usize
     let mut total = 0;
     let mut at = 0;
     while datagram.len() - at >= HEADER_SIZE {
-        let field = header::field_at_unchecked(datagram, at) as usize;
+        let header = HeaderAt {
+            bytes: datagram,
+            at,
+        };
+        let field = header.field() as usize;
         if datagram.len() - at - HEADER_SIZE < field {
             return total;
         }

@@ -6,7 +6,5 @@ use Rattle.listing.proofs.print_packets.Given as goal
 
 abbrev pub invariant-loop-cell : goal.invariant-loop-cell
 invariant-loop-cell g l =
-    (goal.iterator-loop-cell g).can_next l.cell-iterator
-    × (goal.iterator-loop-cell g).is_finite l.cell-iterator
-    × (chunks_exact_size l.cell-iterator ≡ 2)
+    (chunks_exact_size l.cell-iterator ≡ 2)
     × (chunks_exact_rest l.cell-iterator ≡ flat (drop (length l.yielded) (packets_of l.datagram).cells))

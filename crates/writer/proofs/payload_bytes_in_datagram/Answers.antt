@@ -8,12 +8,12 @@ loop-at-init c = omega (arith, announced_first c.args.datagram.now)
 
 pub returns-then-datagram-at : goal.returns-then-datagram-at
 returns-then-datagram-at c =
-    let none = announced_short c.args.datagram.now c.loop-at.at c.loop-at-test.true c.field_at_unchecked-field.ensures c.if-datagram-at.true in
+    let none = announced_short c.args.datagram.now c.loop-at.at c.loop-at-test.true c.field-field.ensures c.if-datagram-at.true in
     omega arith
 
 pub loop-at-preserved : goal.loop-at-preserved
 loop-at-preserved c =
-    let next = announced_next c.args.datagram.now c.loop-at.at c.loop-at-test.true c.field_at_unchecked-field.ensures c.if-datagram-at.false in
+    let next = announced_next c.args.datagram.now c.loop-at.at c.loop-at-test.true c.field-field.ensures c.if-datagram-at.false in
     omega arith
 
 pub returns : goal.returns
