@@ -53,20 +53,24 @@ const TYPES: [TypeRow; 16] = [
 ];
 
 // Every read learns from here which types are known and which have a payload. (A type number that is given for writing is tried by `PacketType::try_from`,
-// which keeps the table's rule.) The compiler builds the table anew wherever it is read, so a loop takes it once, before its first step, and lends it to
-// `row_in_unchecked`.
-pub fn type_table() -> [TypeRow; 16]
-    ensures { TypeTable result }
-{
-    TYPES
+// which keeps the table's rule.) The compiler builds the table anew wherever it is read, so a loop takes it once, before its first step.
+#[derive(Clone, Copy)]
+pub struct TypeRows {
+    rows: [TypeRow; 16],
+    ghost rule: { TypeTable rows },
 }
 
-// The row of a type number that four bits hold, from the table lent.
-pub fn row_in_unchecked(table: &[TypeRow; 16], number: u8) -> TypeRow
-    requires { TypeTable table.now × (number < 16) }
-    ensures { row_says result ≡ row_of number }
-{
-    table[number as usize]
+impl TypeRows {
+    pub fn new() -> Self {
+        Self { rows: TYPES }
+    }
+
+    // The row of a header's type, which four bits hold.
+    pub fn row(&self, header: &HeaderAt<'_>) -> TypeRow
+        ensures { row_says result ≡ row_of (type_at header.now.bytes.now header.now.at) }
+    {
+        self.rows[header.type_number() as usize]
+    }
 }
 
 // core/header.rs, `PacketType as u8`.
@@ -142,13 +146,12 @@ impl HeaderAt<'_> {
         ensures { read_says (λ h. h) result ≡ deserialises_at self.now.bytes.now self.now.at }
     {
         let HeaderAt { bytes, at } = *self;
-        let number = self.type_number();
-        if row_in_unchecked(&type_table(), number) == TypeRow::Unknown {
+        if TypeRows::new().row(self) == TypeRow::Unknown {
             return Err(ReadError::at(Refusal::UnknownType, at));
         }
         Ok(BluefinHeader {
             version: bytes[at] / 16,
-            type_field: PacketType::of_number(number),
+            type_field: PacketType::of_number(self.type_number()),
             type_specific_payload: self.field(),
             security_fields: BluefinSecurityFields::from(bytes[at + 3]),
             source_connection_id: u32::from_be_bytes(parts::array_at(bytes, at + 4)),

@@ -2,10 +2,9 @@
 // Proved: a walk counts and writes what the definition's walk from the same cursor does.
 ghost use Rattle.std.specs.Prelude.{◌≡◌, ◌+◌, ◌/◌, ◌^◌, ◌<◌, ◌≤◌, List, [], ℕ, length, IfOk, IfSome};
 ghost use Rattle.refusal.specs.Said.{Said, read_says};
-ghost use Rattle.header.specs.Types.{TypeTable};
 
 use crate::READING_LIMIT;
-use header::{HEADER_SIZE, HeaderAt, TypeRow};
+use header::{HEADER_SIZE, HeaderAt, TypeRow, TypeRows};
 use refusal::{ReadError, Refusal};
 
 // The packets of a datagram, of which `met` lie before the cursor `at`, where the index has `room` cells.
@@ -13,14 +12,13 @@ use refusal::{ReadError, Refusal};
 #[derive(Drop)]
 pub struct Packets<'a> {
     datagram: &'a [u8],
-    types: [TypeRow; 16],
+    types: TypeRows,
     room: usize,
     at: usize,
     pub met: usize,
     ghost within: { at ≤ length datagram.now },
     ghost short: { length datagram.now < 2 ^ 32 },
     ghost fits: { met ≤ room },
-    ghost table: { TypeTable types },
 }
 
 impl<'a> Packets<'a> {
@@ -38,7 +36,7 @@ impl<'a> Packets<'a> {
         }
         Ok(Self {
             datagram,
-            types: header::type_table(),
+            types: TypeRows::new(),
             room,
             at: 0,
             met: 0,
@@ -63,7 +61,7 @@ impl<'a> Packets<'a> {
             bytes: self.datagram,
             at: self.at,
         };
-        match header::row_in_unchecked(&self.types, header.type_number()) {
+        match self.types.row(&header) {
             TypeRow::Unknown => return Err(Refusal::UnknownType),
             TypeRow::HeaderAlone => return Ok(Some(0)),
             TypeRow::WithPayload => {}
