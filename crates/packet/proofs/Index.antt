@@ -7,9 +7,8 @@ use mathlib.Core.Bool.{Bool, true, false, cond}
 use mathlib.Core.List.{List, [], ◌∷◌, ◌++◌, map}
 use native.Mathlib.Omega.{arith}
 use native.Mathlib.Decide.{dec_le}
-use native.Mathlib.Nat.{add-zero}
-use lib.ListN.{length, get_or, take, drop, length-take, length-drop}
-use lib.Seq.{sets-eq, length-sets, get_or-take, get_or-drop, drop-drop, take_all, take_at}
+use lib.ListN.{length, get_or, take, drop, length-take}
+use lib.Seq.{sets-eq, length-sets, get_or-take, take_all, take_at}
 use lib.Dec.{ltb}
 use borrow.Author.Tests.{ltb-false, le-ltb}
 use Rattle.refusal.specs.Said.{Said, answers, refuses, refuses_at}
@@ -94,10 +93,6 @@ module _ (s : List ℕ) (at len : ℕ) where
   type_is = number_type (type_at s at)
 
 module _ (s : List ℕ) where
-  pub none_listed : (index : List ℕ) → listed s index 0 ≡ []
-  unfolding listed
-  none_listed index = refl
-
   pub number_fits : Bytes s → (c : ℕ × ℕ) → (packet_at s c).header.packet_number ≤ largest
   unfolding packet_at header_at
   number_fits b c =
@@ -112,21 +107,19 @@ module _ (s : List ℕ) where
   every_listed P each (o ∷ []) (suc n) i = tt
   every_listed P each (o ∷ l ∷ index) (suc n) i = (each (o, l), every_listed P each index n (suc i))
 
-  listed-first : (index : List ℕ) (n : ℕ) → 2 ≤ length index → listed s index (suc n) ≡ packet_at s (get_or index 0 0, get_or index 1 0) ∷ listed s (drop 2 index) n
+  -- the first n cells cut off
+  listed_take : (index : List ℕ) (n : ℕ) → listed s (take (2 * n) index) n ≡ listed s index n
   unfolding listed
-  listed-first [] n h = absurd (omega arith)
-  listed-first (o ∷ []) n h = absurd (omega arith)
-  listed-first (o ∷ l ∷ index) n h = refl
-
-  -- the packets from the i-th on, the first of them apart
-  pub listed_next : (index : List ℕ) (i n : ℕ) → i < n → 2 * n ≤ length index
-      → listed s (drop (2 * i) index) (n - i) ≡ packet_at s (get_or index (2 * i) 0, get_or index (2 * i + 1) 0) ∷ listed s (drop (2 * (i + 1)) index) (n - (i + 1))
-  listed_next index i n h k =
-      let more : n - i ≡ suc (n - (i + 1)) = omega arith in
-      let offset : get_or (drop (2 * i) index) 0 0 ≡ get_or index (2 * i) 0 = get_or-drop (2 * i) index 0 0 ∙ rw add-zero in
-      let next : 2 * i + 2 ≡ 2 * (i + 1) = omega arith in
-      let left : drop 2 (drop (2 * i) index) ≡ drop (2 * (i + 1)) index = drop-drop 2 (2 * i) index ∙ rw next in
-      rw more (listed-first (drop (2 * i) index) (n - (i + 1)) (rw length-drop (omega arith)) ∙ rw (offset, get_or-drop (2 * i) index 1 0, left))
+  listed_take index zero = refl
+  listed_take [] (suc n) =
+      let two : 2 * suc n ≡ suc (suc (2 * n)) = omega arith in
+      rw two
+  listed_take (o ∷ []) (suc n) =
+      let two : 2 * suc n ≡ suc (suc (2 * n)) = omega arith in
+      rw two
+  listed_take (o ∷ l ∷ index) (suc n) =
+      let two : 2 * suc n ≡ suc (suc (2 * n)) = omega arith in
+      rw two (ap (λ (ps : List Packet). packet_at s (o, l) ∷ ps) (listed_take index n))
 
   listed-flat : (cs : List (ℕ × ℕ)) (rest : List ℕ) → listed s (flat cs ++ rest) (length cs) ≡ map (packet_at s) cs
   unfolding flat listed
@@ -158,6 +151,55 @@ module _ (s : List ℕ) where
             ∙ flat_at cs _ i (rw length-take h)
             ∙ get_or-take (cells_in index) (packets_of s).cells i (0, 0) (omega arith) in
             subst (Within s) (sym cell) (cell_within s (0, 0) i (omega arith))
+
+-- the first n cells of an index as a list of their own: as many are in it, of the same packets
+module _ (s index : List ℕ) (n : ℕ) (all : Listed s index n) where
+  pub cut_many : length (take (2 * n) index) / 2 ≡ n
+  cut_many = let room = all.cells in omega (arith, length-take (2 * n) index)
+
+  pub cut_same : listed s (take (2 * n) index) (length (take (2 * n) index) / 2) ≡ listed s index n
+  cut_same = rw cut_many (listed_take s index n)
+
+  pub cut_within : Listed s (take (2 * n) index) (length (take (2 * n) index) / 2)
+  cut_within = record { cells = omega arith; within = here }
+    where
+      here : (i : ℕ) → i < length (take (2 * n) index) / 2 → Within s (get_or (take (2 * n) index) (2 * i) 0, get_or (take (2 * n) index) (2 * i + 1) 0)
+      here i h =
+          let small : i < n = omega (arith, cut_many) in
+          rw (get_or-take (2 * n) index (2 * i) 0 (omega arith), get_or-take (2 * n) index (2 * i + 1) 0 (omega arith)) (all.within i small)
+
+-- a cell in front of others: its packet is the first of those listed and lies within the datagram, and so do theirs
+pub record FirstCell (s cells cell left : List ℕ) : Type 0 where
+  pub more : length cells / 2 ≡ suc (length left / 2)
+  pub first : listed s cells (length cells / 2) ≡ packet_at s (get_or cell 0 0, get_or cell 1 0) ∷ listed s left (length left / 2)
+  pub within : Within s (get_or cell 0 0, get_or cell 1 0)
+  pub behind : Listed s left (length left / 2)
+
+first_pair : (s left : List ℕ) (o l : ℕ) → Listed s (o ∷ l ∷ left) (length (o ∷ l ∷ left) / 2) → FirstCell s (o ∷ l ∷ left) (o ∷ l ∷ []) left
+unfolding listed
+first_pair s left o l all =
+    let more : length (o ∷ l ∷ left) / 2 ≡ suc (length left / 2) = omega arith in
+    record { more = more; first = rw more; within = all.within 0 (omega arith); behind = record { cells = omega arith; within = next } }
+  where
+    next : (i : ℕ) → i < length left / 2 → Within s (get_or left (2 * i) 0, get_or left (2 * i + 1) 0)
+    next i h =
+        let second : 2 * suc i + 1 ≡ suc (suc (2 * i + 1)) = omega arith in
+        let first : 2 * suc i ≡ suc (suc (2 * i)) = omega arith in
+        rw (second, first) at (all.within (suc i) (omega arith))
+
+pub first_cell : (s : List ℕ) (cell left : List ℕ) {cells : List ℕ} → Listed s cells (length cells / 2) → cells ≡ cell ++ left → length cell ≡ 2 → FirstCell s cells cell left
+first_cell s [] left all e two = absurd (omega arith)
+first_cell s (o ∷ []) left all e two = absurd (omega arith)
+first_cell s (o ∷ l ∷ []) left all e two =
+    subst (λ (x : List ℕ). FirstCell s x (o ∷ l ∷ []) left) (sym e) (first_pair s left o l (subst (λ (x : List ℕ). Listed s x (length x / 2)) e all))
+first_cell s (o ∷ l ∷ x ∷ xs) left all e two = absurd (omega arith)
+
+-- past the last cell nothing is listed
+pub none_listed : (s cells : List ℕ) → length cells < 2 → listed s cells (length cells / 2) ≡ []
+unfolding listed
+none_listed s cells few =
+    let none : length cells / 2 ≡ 0 = omega arith in
+    rw none
 
 -- where parsing answers a count, it is the count of all packets, each has its cell, and the walk came to the end
 pub record Answered (s : List ℕ) (room n : ℕ) : Type 0 where

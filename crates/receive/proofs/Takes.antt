@@ -1,18 +1,18 @@
 -- Laws of `takes` and `takes_all`: what a packet's type decides, and the walk over the packets of an index, one packet on.
 -- Assumes nothing.
-use Prim.Native.Nat.{ℕ, suc, ◌+◌, ◌-◌, ◌*◌, ◌<◌, ◌≤◌}
+use Prim.Native.Nat.{ℕ, suc, ◌+◌, ◌/◌, ◌<◌}
 use mathlib.Core.Path.{◌≡◌, ap, ◌∙◌}
 use mathlib.Core.List.{List}
 use native.Mathlib.Omega.{arith}
-use lib.ListN.{length, get_or, set, drop}
+use lib.ListN.{length, get_or, set}
 use borrow.Author.Tests.{eq-eqb, ne_eqb}
 use Rattle.refusal.specs.Said.{Said, refusal_in}
 use Rattle.header.specs.Types.{type_number}
 use Rattle.header.specs.Header.{type_at}
 use Rattle.packet.specs.Packet.{Packet}
 use Rattle.packet.specs.Datagram.{packet_at, listed}
-use Rattle.packet.proofs.Index.{type_is, none_listed, listed_next}
-use Rattle.receive.specs.Datagram.{Progress, progress, takes, takes_all, takes_listed, Leaves}
+use Rattle.packet.proofs.Index.{type_is, none_listed, FirstCell}
+use Rattle.receive.specs.Datagram.{Progress, progress, takes, takes_all, Leaves}
 
 -- the packet at a cursor, whose type number was read: of another type, or of this one
 module _ {S : Type 0} (Good : S → Type 0) (type : ℕ) (call : S → Packet → Said Unit × S) (early : type < 6) (s : List ℕ) (i at len : ℕ) (x : S) (answers : List ℕ)
@@ -26,27 +26,18 @@ module _ {S : Type 0} (Good : S → Type 0) (type : ℕ) (call : S → Packet �
   taken-one k answer left good =
       record { same = rw (answer, left, eq-eqb (type_number (packet_at s (at, len)).header.type_field) type (omega (arith, type_is s at len))); good = good }
 
-module _ {S : Type 0} (type : ℕ) (call : S → Packet → Said Unit × S) (s index : List ℕ) (n : ℕ) where
-  -- what is left to do, the i-th packet being the next
-  abbrev pub rest : ℕ → Progress S → Progress S
-  rest i d = takes_all type call i (listed s (drop (2 * i) index) (n - i)) d
+module _ {S : Type 0} (type : ℕ) (call : S → Packet → Said Unit × S) (s : List ℕ) where
+  -- what is left to do, where these cells are left and the i-th packet is the next
+  abbrev pub rest : ℕ → List ℕ → Progress S → Progress S
+  rest i cells d = takes_all type call i (listed s cells (length cells / 2)) d
 
-  pub rest_begin : (d : Progress S) → rest 0 d ≡ takes_listed type call s index n d
-  rest_begin d =
-      let z : n - 0 ≡ n = omega arith in
-      rw z
-
-  pub rest_on : (i : ℕ) (d : Progress S) → i < n → 2 * n ≤ length index
-      → rest i d ≡ rest (i + 1) (takes type call i (packet_at s (get_or index (2 * i) 0, get_or index (2 * i + 1) 0)) d)
+  pub rest_on : {n i next : ℕ} {cells cell left : List ℕ} (d : Progress S) → i ≡ n → next ≡ n + 1 → FirstCell s cells cell left
+      → rest next left (takes type call i (packet_at s (get_or cell 0 0, get_or cell 1 0)) d) ≡ rest n cells d
   unfolding takes_all
-  rest_on i d h k =
-      let z : suc i ≡ i + 1 = omega arith in
-      let next = takes type call i (packet_at s (get_or index (2 * i) 0, get_or index (2 * i + 1) 0)) d in
-      ap (λ (ps : List Packet). takes_all type call i ps d) (listed_next s index i n h k)
-      ∙ ap (λ (j : ℕ). takes_all type call j (listed s (drop (2 * (i + 1)) index) (n - (i + 1))) next) z
+  rest_on {n = n} {cell = cell} {left = left} d here on f =
+      let z : n + 1 ≡ suc n = omega arith in
+      rw (here, on, z, f.first)
 
-  pub rest_end : (i : ℕ) (d : Progress S) → n ≤ i → rest i d ≡ d
+  pub rest_end : (i : ℕ) (cells : List ℕ) (d : Progress S) → length cells < 2 → rest i cells d ≡ d
   unfolding takes_all
-  rest_end i d h =
-      let z : n - i ≡ 0 = omega arith in
-      rw (z, none_listed s (drop (2 * i) index))
+  rest_end i cells d h = rw (none_listed s cells h)

@@ -3,7 +3,7 @@
 // Proved for every receiver: answer, state and every lent list are the definition's `takes_datagram`, on every input.
 #![tactic(auto)]
 
-ghost use Rattle.std.specs.Prelude.{◌≡◌, ℕ, ◌<◌, ◌≤◌, Bool, true, length};
+ghost use Rattle.std.specs.Prelude.{◌≡◌, ℕ, ◌/◌, ◌<◌, ◌≤◌, Bool, true, length};
 ghost use Rattle.refusal.specs.Said.{Said, says, read_says};
 ghost use Rattle.header.specs.Types.{type_number};
 ghost use Rattle.packet.specs.Packet.{Packet};
@@ -66,24 +66,18 @@ fn take_one<R: Receiver>(receiver: &mut R, packet: &PacketAt<'_>, i: usize, answ
     answers[i] = refusal::refusal_in(taken);
 }
 
-// The first n packets of the index. Each call keeps the state well formed, so that one test of refusal 12 stands for all of them.
-fn take_listed<R: Receiver>(
-    receiver: &mut R,
-    datagram: &[u8],
-    index: &[u32],
-    n: usize,
-    answers: &mut [u8],
-)
-    requires { (R.well (R.state receiver.old) ≡ true) × Listed datagram.now index.now n × (n ≤ length answers.old) }
+// The packets of the cells. Each call keeps the state well formed, so that one test of refusal 12 stands for all of them.
+fn take_listed<R: Receiver>(receiver: &mut R, datagram: &[u8], cells: &[u32], answers: &mut [u8])
+    requires { (R.well (R.state receiver.old) ≡ true) × Listed datagram.now cells.now (length cells.now / 2) × (length cells.now / 2 ≤ length answers.old) }
     ensures kept { R.Kept receiver.old receiver.new }
     ensures value { progress (R.state receiver.new) answers.new
-        ≡ takes_listed R.kind R.call datagram.now index.now n (progress (R.state receiver.old) answers.old) }
+        ≡ takes_listed R.kind R.call datagram.now cells.now (length cells.now / 2) (progress (R.state receiver.old) answers.old) }
 {
-    for i in 0..n {
+    for (i, cell) in cells.chunks_exact(2).enumerate() {
         let packet = PacketAt {
             datagram,
-            at: index[2 * i] as usize,
-            len: index[2 * i + 1] as usize,
+            at: cell[0] as usize,
+            len: cell[1] as usize,
         };
         take_one(receiver, &packet, i, answers);
     }
@@ -113,6 +107,6 @@ pub fn receive_datagram<R: Receiver>(
         return ReadError::from(Refusal::BufferShort).into();
     }
     let indexed = packet::index_packets(datagram, index);
-    take_listed(receiver, datagram, index, indexed.cells, answers);
+    take_listed(receiver, datagram, &index[..2 * indexed.cells], answers);
     indexed
 }
