@@ -28,6 +28,7 @@ pub fn len(payload: &[u8]) -> usize
 }
 
 // core/packet.rs, `BluefinPacket::serialise_into`. Answers the bytes written.
+#[tactic(auto, using(crate::proofs::Alone::behind_header))]
 pub fn serialise_into(
     header: BluefinHeader,
     payload: &[u8],
@@ -111,6 +112,7 @@ impl From<ReadError> for Indexed {
 }
 
 // One pass, so that what was met before a refusal stands in the index.
+#[tactic(auto, using(crate::proofs::Walk::out_all))]
 pub fn index_packets(datagram: &[u8], index: &mut [u32]) -> Indexed
     ensures { ◌≡◌ {A = Said ℕ × List ℕ × ℕ} (read_says (λ n. n) result.answer, index.new, result.cells) (indexes datagram.now index.old) }
 {
