@@ -11,7 +11,7 @@ use refusal::Refusal;
 use std::io::{self, Read, Write};
 
 fn read_host(replay: &mut Replay<impl Read, impl Write>) -> io::Result<BluefinHost> {
-    Ok(BluefinHost::from(replay.read_u8()?))
+    Ok(BluefinHost::from(replay.read_number::<u8>()?))
 }
 
 fn read_ids(replay: &mut Replay<impl Read, impl Write>) -> io::Result<ConnectionIds> {
