@@ -52,14 +52,9 @@ impl From<CloseBuffer> for CloseRecord {
     ghost from_gives = { λ b c. c ≡ flat_close b };
 
     fn from(b: CloseBuffer) -> Self {
-        let (state, state_fin) = match b.state {
-            CloseState::Active => (0, 0),
-            CloseState::PeerFinReceived(n) => (1, n),
-            CloseState::LocalFinSent(n) => (2, n),
-            CloseState::Closed => (3, 0),
-        };
+        let (state, fin) = b.state.numbers();
         Self {
-            state_fin,
+            state_fin: fin.unwrap_or(0),
             pending_fin_ack_send: b.pending_fin_ack_send.unwrap_or(0),
             received_fin_ack_for: b.received_fin_ack_for.unwrap_or(0),
             state,
