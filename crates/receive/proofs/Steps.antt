@@ -5,7 +5,7 @@ use mathlib.Core.Path.{◌≡◌, sym, ap, ap₂, ◌∙◌}
 use mathlib.Core.Option.{Option}
 use mathlib.Core.Bool.{true}
 use mathlib.Core.List.{List}
-use lib.ListN.{length, take, drop}
+use lib.ListN.{take, drop}
 use Rattle.refusal.specs.Said.{Said}
 use Rattle.lists.specs.Numbers.{largest}
 use Rattle.header.specs.Header.{field_at, packet_number_at}
