@@ -68,11 +68,12 @@ pub enum AcceptError {
     Refused(Refusal),
 }
 
-impl AcceptError {
-    pub fn refusal(self) -> Refusal
-        ensures { accepted_says (Err self) ≡ refuses (number_of result) }
-    {
-        match self {
+// Without the ack.
+impl From<AcceptError> for Refusal {
+    ghost from_gives = { λ e refusal. accepted_says (Err e) ≡ refuses (number_of refusal) };
+
+    fn from(error: AcceptError) -> Self {
+        match error {
             AcceptError::Below(_) => Refusal::Below,
             AcceptError::Refused(refusal) => refusal,
         }

@@ -50,7 +50,7 @@ impl Receiver for BufferViewMut<'_> {
         ensures value { (says (λ x. x) result, buffer_now self.new) ≡ accepts (buffer_now self.old) (packet_at packet.now.datagram.now (packet.now.at, packet.now.len)) }
     {
         self.buffer_in_packet_unchecked(packet.header().number(), packet.payload())
-            .map_err(|error| error.refusal())
+            .map_err(Refusal::from)
     }
 
     ghost early = { Prim.search rules };

@@ -65,9 +65,7 @@ fn fill_payload(n: u64, payload: &mut [u8]) {
 // Stores a packet as long as the lent payload. The Rust gives no ack where it refuses, so that of 5 is left out.
 fn accept_one(buffer: &mut BufferViewMut<'_>, n: u64, payload: &mut [u8]) -> Result<(), Refusal> {
     fill_payload(n, payload);
-    buffer
-        .buffer_in_packet(n, payload)
-        .map_err(|error| error.refusal())
+    buffer.buffer_in_packet(n, payload).map_err(Refusal::from)
 }
 
 fn accept(
