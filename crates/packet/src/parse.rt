@@ -97,11 +97,10 @@ impl<'a> Packets<'a> {
         requires { self.old.room ≡ length index.old / 2 }
         ensures { ◌≡◌ {A = Said ℕ × List ℕ × ℕ} (read_says (λ n. n) result, index.new, self.new.met) (left self.old index.old) }
     {
-        let mut cell = 2 * self.met;
         while let Some((at, payload)) = self.next_packet()? {
+            let cell = 2 * (self.met - 1);
             index[cell] = at as u32;
             index[cell + 1] = payload as u32;
-            cell += 2;
         }
         Ok(self.met)
     }

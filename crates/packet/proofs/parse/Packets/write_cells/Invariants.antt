@@ -6,7 +6,6 @@ use Rattle.packet.proofs.parse.Packets.write_cells.Given as goal
 abbrev pub invariant-loop-at : goal.invariant-loop-at
 invariant-loop-at l =
     (l.self.room ≡ length l.index / 2)
-    × (l.cell ≡ 2 * l.self.met)
     × (left l.self l.index ≡ left l.fn.self l.fn.index)
 
 abbrev pub decreases-loop-at : goal.decreases-loop-at
