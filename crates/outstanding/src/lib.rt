@@ -171,8 +171,8 @@ impl StoreViewMut<'_> {
         }
     }
 
-    // Drops the first n packets. What is left moves to the front; nothing else is written. The bytes go by `move_part`, one move of memory, where `copy_within`
-    // takes 1.4 to 2.2 times as long.
+    // Drops the first n packets. What is left moves to the front; nothing else is written. The bytes go by `move_part`,
+    // for the reason that stands there.
     fn drop_first(&mut self, n: usize)
         requires { (well_formed (store_now self.old) ≡ true) × (n ≤ self.old.state.count) }
         ensures lent { SameLent self.old self.new }

@@ -1,4 +1,4 @@
--- The walk over a datagram, one packet on: what the loops of `count` and `write_cells` have still to answer and to write.
+-- The walk over a datagram, one packet on: what the loops of `from_bytes` and `write_cells` have still to answer and to write.
 -- Assumes nothing.
 use Prim.Native.Nat.{ℕ, zero, suc, ◌+◌, ◌-◌, ◌*◌, ◌<◌, ◌≤◌, min}
 use mathlib.Core.Path.{◌≡◌, refl, sym, ap, subst, ◌∙◌}

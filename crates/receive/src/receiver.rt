@@ -43,7 +43,7 @@ pub trait Receiver {
         ensures well { well (state self.new) ≡ true }
         ensures value { (says (λ x. x) result, state self.new) ≡ call (state self.old) (packet_at packet.now.datagram.now (packet.now.at, packet.now.len)) };
 
-    // The types that an index can list are those below 6.
+    // Below 6 a number is that of one type alone: `type_of` gives FinAck for every number from 6 on.
     ghost early: { kind < 6 };
 
     ghost kept_none: { (x : Self) → Kept x x };

@@ -316,7 +316,7 @@ fn shift_up(cells: &mut [u64], from: usize, count: usize, k: usize, budget: &mut
     }
 }
 
-// Writes base, base + 1 and so on.
+// Writes base, base + 1 and so on. The number counts up beside the cells: eight instructions for four of them, where `base + i` took ten.
 fn fill(cells: &mut [u64], base: u64, budget: &mut usize)
     requires fits { base + length cells.old ≤ largest }
     requires allowed { length cells.old ≤ budget.old }
