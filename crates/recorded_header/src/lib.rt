@@ -4,29 +4,27 @@
 use header::{BluefinHeader, BluefinSecurityFields, PacketType};
 use recorded::Replay;
 use std::fmt::{self, Display, Formatter};
-use std::io::{self, Read, Write};
+use std::io::{self, Read};
 
 // The type of a word: the recorded ones are 0 to 6.
-pub fn read_type(replay: &mut Replay<impl Read, impl Write>) -> io::Result<PacketType> {
-    Ok(PacketType::of_number(replay.read_number()?))
+pub fn read_type<R: Read, W>(replay: &mut Replay<R, W>) -> io::Result<PacketType> {
+    Ok(PacketType::of_number(replay.read_u8()?))
 }
 
-pub fn read_security(
-    replay: &mut Replay<impl Read, impl Write>,
-) -> io::Result<BluefinSecurityFields> {
+pub fn read_security<R: Read, W>(replay: &mut Replay<R, W>) -> io::Result<BluefinSecurityFields> {
     let encrypted = replay.read_word()? != 0;
-    let mask = replay.read_number()?;
+    let mask = replay.read_u8()?;
     Ok(BluefinSecurityFields::new(encrypted, mask))
 }
 
-pub fn read_header(replay: &mut Replay<impl Read, impl Write>) -> io::Result<BluefinHeader> {
+pub fn read_header<R: Read, W>(replay: &mut Replay<R, W>) -> io::Result<BluefinHeader> {
     Ok(BluefinHeader {
-        version: replay.read_number()?,
+        version: replay.read_u8()?,
         type_field: read_type(replay)?,
-        type_specific_payload: replay.read_number()?,
+        type_specific_payload: replay.read_u16()?,
         security_fields: read_security(replay)?,
-        source_connection_id: replay.read_number()?,
-        destination_connection_id: replay.read_number()?,
+        source_connection_id: replay.read_u32()?,
+        destination_connection_id: replay.read_u32()?,
         packet_number: replay.read_word()?,
     })
 }

@@ -34,19 +34,20 @@ fn answer(
     replay: &mut Replay<impl Read, impl Write>,
     c: CloseBuffer,
 ) -> io::Result<CloseBuffer> {
-    let mut taken = None;
+    let taken = if event == 4 {
+        c.pending_fin_ack_send
+    } else {
+        None
+    };
+    begin_event(replay, taken)?;
     let after = match event {
         0 => CloseBuffer::new(replay.read_word()? != 0),
         1 => c.after_fin(replay.read_word()?),
         2 => c.after_fin_ack(replay.read_word()?),
         3 => c.after_local_fin(replay.read_word()?),
-        4 => {
-            taken = c.pending_fin_ack_send;
-            c.after_take()
-        }
+        4 => c.after_take(),
         _ => c.after_closed(),
     };
-    begin_event(replay, taken)?;
     print_record(replay, after)?;
     Ok(after)
 }

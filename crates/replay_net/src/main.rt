@@ -11,13 +11,14 @@ use refusal::Refusal;
 use std::io::{self, Read, Write};
 
 fn read_host(replay: &mut Replay<impl Read, impl Write>) -> io::Result<BluefinHost> {
-    Ok(BluefinHost::from(replay.read_number::<u8>()?))
+    let number = u8::try_from(replay.read_word()?);
+    Ok(number.map_or(BluefinHost::Other, BluefinHost::from))
 }
 
 fn read_ids(replay: &mut Replay<impl Read, impl Write>) -> io::Result<ConnectionIds> {
     Ok(ConnectionIds {
-        source: replay.read_number()?,
-        destination: replay.read_number()?,
+        source: replay.read_u32()?,
+        destination: replay.read_u32()?,
     })
 }
 

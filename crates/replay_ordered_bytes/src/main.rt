@@ -114,11 +114,10 @@ fn add_number(sum: u64, n: u64) -> u64 {
     )
 }
 
-// At most so many of the bytes from `start` on.
+// At most so many of the bytes from `start` on. `skip` would go over all bytes before.
 fn add_part(sum: u64, bytes: &[u8], start: usize, count: usize) -> u64 {
-    bytes
-        .iter()
-        .skip(start)
+    let rest = bytes.get(start..).unwrap_or(&[]);
+    rest.iter()
         .take(count)
         .fold(sum, |sum, &byte| recorded::add_byte(sum, byte))
 }

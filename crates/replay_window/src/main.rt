@@ -48,7 +48,7 @@ fn insert_range(
     window: &mut WindowViewMut<'_>,
 ) -> io::Result<()> {
     let base = replay.read_word()?;
-    let count = replay.read_number()?;
+    let count = replay.read_u16()?;
     begin_answer(replay, window.insert_range(base, count))
 }
 

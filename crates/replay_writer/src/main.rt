@@ -49,7 +49,7 @@ fn read_entries(
         return Ok(0);
     }
     for length in &mut lengths[..n] {
-        *length = replay.read_number()?;
+        *length = replay.read_u32()?;
     }
     Ok(n)
 }
@@ -91,8 +91,8 @@ fn pack_into(
 fn pack(replay: &mut Replay<impl Read, impl Write>, bytes: &[u8]) -> io::Result<()> {
     let next_packet_num = replay.read_word()?;
     let ids = ConnectionIds {
-        source: replay.read_number()?,
-        destination: replay.read_number()?,
+        source: replay.read_u32()?,
+        destination: replay.read_u32()?,
     };
     let mut out = [BEFORE; OUT_LEN];
     let room = replay.read_length(&out)?;
