@@ -5,15 +5,23 @@ use native.Mathlib.Numerals.{add-one}
 use native.Mathlib.Omega.{arith}
 use mathlib.Core.Path.{◌≡◌, refl, sym, ap, ◌∙◌}
 use mathlib.Core.Bool.{true}
-use lib.ListN.{length, get_or}
+use mathlib.Core.List.{List}
+use lib.ListN.{length, get_or, set}
 use Rattle.refusal.specs.Said.{answers}
 use Rattle.ring_buffer.specs.Ring.{blank, well_formed, contents, popped, blanked, Outcome, leaves, pop_front}
+use Rattle.ring_buffer.specs.Places.{popped_by}
 use Rattle.ring_buffer.specs.Views.{leaving, SameLent}
 use Rattle.ring_buffer.specs.declared.AckData.{AckData}
+use Rattle.ring_buffer.specs.declared.RingBuffer.{RingBuffer}
 use Rattle.ring_buffer.specs.declared.RingViewMut.{RingViewMut}
 use Rattle.ring_buffer.proofs.Blanked.{length-blanked, blanked_none}
+use Rattle.ring_buffer.proofs.Cases.{pop_held}
 use Rattle.ring_buffer.proofs.Laws.{popped_keeps, pop_again}
-use Rattle.ring_buffer.proofs.Positions.{popped_none}
+use Rattle.ring_buffer.proofs.Positions.{popped_none, popped_by_is}
+
+-- one record popped by the functions that decide by value
+pub popped_front : (g : RingBuffer) (ys : List AckData) → well_formed g (length ys) ≡ true → 0 < g.len → leaves (answers (get_or ys g.head blank)) (popped_by g (length ys) 1) (set ys g.head blank) ≡ pop_front g ys
+popped_front g ys w some = rw (popped_by_is g (length ys) w 1 (omega arith)) (sym (pop_held g ys (length ys) refl w (λ z. omega arith)))
 
 -- v is well formed, and w is v with its k first records popped
 pub record Popped (k : ℕ) (v w : RingViewMut) : Type 0 where

@@ -1,15 +1,25 @@
--- What a well formed ring's positions are, and that positions so related are well formed.
+-- What a well formed ring's positions are, that positions so related are well formed, and that a position brought round the end is a remainder.
 -- Assumes nothing.
-use Prim.Native.Nat.{ℕ, ◌+◌, ◌%◌, ◌<◌, ◌≤◌}
+use Prim.Native.Nat.{ℕ, ◌+◌, ◌-◌, ◌%◌, ◌<◌, ◌≤◌}
 use native.Mathlib.Nat.{add-zero, sub-zero, mod-lt, mod-eq_of_lt}
 use native.Mathlib.Omega.{arith}
-use mathlib.Core.Path.{◌≡◌, refl, ap}
+use mathlib.Core.Path.{◌≡◌, refl, sym, ap}
 use mathlib.Core.Bool.{Bool, true, false, cond, ◌&&◌}
 use lib.Dec.{ltb, leb, eqb}
 use Rattle.std.proofs.lemmas.Bool.{and_parts}
-use borrow.Author.Tests.{ltb-true, leb-true, eqb-true, le-leb, lt-ltb, eq-eqb, ne_eqb}
+use borrow.Author.Tests.{ltb-true, ltb-false, leb-true, eqb-true, eqb-false, le-leb, lt-leb, lt-ltb, le-ltb, eq-eqb, ne_eqb}
+use Rattle.lists.proofs.Rotated.{wraps}
 use Rattle.ring_buffer.specs.Ring.{well_formed, popped}
+use Rattle.ring_buffer.specs.Places.{slot_of, popped_by}
 use Rattle.ring_buffer.specs.declared.RingBuffer.{RingBuffer}
+
+-- from a cell on, no further than once round, the position is the remainder
+pub slot_is : (p c i : ℕ) → p < c → i ≤ c → slot_of p c i ≡ (p + i) % c
+slot_is p c i in-run once = rw (lt-leb c p in-run) (by (ltb (p + i) c) refl)
+  where
+    by : (b : Bool) → ltb (p + i) c ≡ b → cond b (p + i) (p + i - c) ≡ (p + i) % c
+    by true e = sym (mod-eq_of_lt (ltb-true (p + i) c e))
+    by false e = sym (wraps (p + i) c (ltb-false (p + i) c e) (omega arith))
 
 -- no cell at all, or a head among them and the tail behind the last record
 pub data Placed (g : RingBuffer) (c : ℕ) : Type 0 where
@@ -52,3 +62,18 @@ module _ (g : RingBuffer) (c : ℕ) where
       by : Placed g c → (g.head + 0) % c ≡ g.head
       by (nowhere z h t) = rw (z, h) refl
       by (somewhere h t) = rw add-zero (mod-eq_of_lt h)
+
+  -- the cell of the i-th record
+  pub slot_queued : well_formed g c ≡ true → (i : ℕ) → i < g.len → slot_of g.head c i ≡ (g.head + i) % c
+  slot_queued w i h = let fits = room w in slot_is g.head c i (head_in w (omega arith)) (omega arith)
+
+  -- k of the records popped
+  pub popped_by_is : well_formed g c ≡ true → (k : ℕ) → k ≤ g.len → popped_by g c k ≡ popped g c k
+  popped_by_is w k few = by (eqb k 0) refl
+    where
+      by : (b : Bool) → eqb k 0 ≡ b → popped_by g c k ≡ popped g c k
+      by true e = let none = eqb-true k 0 e in rw none (sym (popped_none w))
+      by false e =
+          let fits = room w in
+          let some : 0 < k = omega (arith, eqb-false k 0 e) in
+          rw (e, le-ltb g.len k few, slot_is g.head c k (head_in w (omega arith)) (omega arith)) refl
