@@ -69,7 +69,15 @@ impl TypeRows {
     pub fn row(&self, header: &HeaderAt<'_>) -> TypeRow
         ensures { row_says result ≡ row_of (type_at header.now.bytes.now header.now.at) }
     {
-        self.rows[header.type_number() as usize]
+        self.row_in_unchecked(header.type_number())
+    }
+
+    // The row of a type number that four bits hold, wherever it was read.
+    pub fn row_in_unchecked(&self, number: u8) -> TypeRow
+        requires { number < 16 }
+        ensures { row_says result ≡ row_of number }
+    {
+        self.rows[number as usize]
     }
 }
 
