@@ -1,4 +1,4 @@
--- The ends of rising numbers, and what one number more makes of them.
+-- The ends of rising numbers, what one number more makes of them, and two parts that share a number.
 -- Assumes nothing.
 use Prim.Native.Nat.{ℕ, zero, suc, ◌+◌, ◌-◌, ◌≤◌, ◌<◌}
 use mathlib.Core.Path.{◌≡◌, refl, sym}
@@ -7,7 +7,7 @@ use mathlib.Core.List.{List, [], ◌∷◌}
 use native.Mathlib.Nat.{le_of_suc-le-suc, not-suc-le-zero}
 use native.Mathlib.Numerals.{add-one}
 use native.Mathlib.Omega.{arith}
-use lib.ListN.{length, take, get_or}
+use lib.ListN.{length, take, drop, get_or}
 use lib.Dec.{ltb}
 use borrow.Author.Tests.{ltb-true}
 use Rattle.lists.specs.Rising.{rising}
@@ -40,3 +40,20 @@ pub rising_next : (i : ℕ) (xs : List ℕ) → 0 < i → i < length xs → risi
 rising_next i xs h l =
     let q : suc (i - 1) ≡ i = omega arith in
     rw (add-one i) (rw q at (next_rises (i - 1) xs (omega arith)))
+
+-- `is_rising`: numbers rise where the first n of them do, and those from the last of these on
+parts_rise : (k : ℕ) (xs : List ℕ) → (rising (take (suc k) xs) && rising (drop k xs)) ≡ rising xs
+unfolding rising
+parts_rise zero [] = refl
+parts_rise (suc k) [] = refl
+parts_rise zero (x ∷ xs) = refl
+parts_rise (suc zero) (x ∷ []) = refl
+parts_rise (suc (suc k)) (x ∷ []) = refl
+parts_rise (suc k) (x ∷ y ∷ ys) = rw (← parts_rise k (y ∷ ys)) (and_assoc (ltb x y) _ _)
+
+pub rising_parts : (n : ℕ) (xs : List ℕ) → (rising (take n xs) && rising (drop (n - 1) xs)) ≡ rising xs
+unfolding rising
+rising_parts zero xs = refl
+rising_parts (suc k) xs =
+    let q : suc k - 1 ≡ k = omega arith in
+    rw q (parts_rise k xs)
